@@ -1,0 +1,1 @@
+// Theory only: drawings as labelled graphs, connectedness, maps, sameness, containment and support. No program code.

@@ -1,0 +1,5 @@
+pub mod Tests
+pub mod Lists
+pub mod Counting
+pub mod Orders
+pub mod Rows

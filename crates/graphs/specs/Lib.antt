@@ -4,3 +4,13 @@ pub mod Survey
 pub mod Cables
 pub mod Embedding
 pub mod Graph
+pub mod Simple
+pub mod Connected
+pub mod Patterns
+pub mod DrawingBytes
+pub mod Embeddings
+pub mod Isomorphisms
+pub mod CountingCables
+pub mod PartialMaps
+pub mod LeastMap
+pub mod Containment

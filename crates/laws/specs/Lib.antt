@@ -3,3 +3,4 @@ pub mod Lists
 pub mod Counting
 pub mod Orders
 pub mod Rows
+pub mod Minimum

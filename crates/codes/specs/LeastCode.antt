@@ -1,0 +1,228 @@
+-- Every pattern has a least code, and the least code is the greedy code. Rests on Tight, LeastExtension and FullCode.
+-- Assumes nothing.
+use mathlib.Core.Path.{_≡_, refl, sym, ap, _∙_, subst}
+use mathlib.Core.Bool.{Bool, true}
+use mathlib.Core.List.{List, [], _∷_, _++_}
+use mathlib.Core.Logic.{_⊎_, inl, inr}
+use Prim.Native.Nat.{ℕ, zero, suc, _+_, _-_, _≤_, _<_}
+use native.Mathlib.Omega.{arith}
+use lib.ListN.{length, getD, length-append}
+use Rattle.laws.specs.Lists.{snoc, snoc-length}
+use Rattle.graphs.specs.Drawing.{Cable, Drawing, devices, kind}
+use Rattle.graphs.specs.Map.{image}
+use Rattle.graphs.specs.Cables.{along, against, Has, has-flip, has-eq, has-first}
+use Rattle.graphs.specs.Embedding.{Embedding, Isomorphism}
+use Rattle.graphs.specs.CountingCables.{embedding-cables}
+use Rattle.graphs.specs.Graph.{Simple, Pattern}
+use Rattle.codes.specs.Code.{Rec, Reading, fresh, cable-of, begun, rows-refusal, read-rows, drawn, decoded, rows-good, Least-by}
+use Rattle.codes.specs.CodeOrder.{Label-order}
+use Rattle.codes.specs.Reading.{Invariant}
+use Rattle.codes.specs.Rows.{stepped-is, begun-is, begun-to-test, rows-one, read-snoc, rows-invariant, decoded-cables, good-from-test}
+use Rattle.codes.specs.Extension.{Extension}
+use Rattle.codes.specs.Tight.{Tight, All-tight, tight-begun, tight-step, Some-extension, progress}
+use Rattle.codes.specs.Greedy.{Fits, fits-one, fits-extension, extension-fits, fits-prefix, fits-through, Greedy, greedy-snoc, greedy-prefix, greedy-within}
+use Rattle.codes.specs.LeastExtension.{Least-extension, least-extension}
+use Rattle.codes.specs.FullCode.{
+  Coded,
+  decoded-simple,
+  coded-fits,
+  coded-itself,
+  coded-length,
+  coded-from-test,
+  greedy-least,
+  least-unique,
+}
+
+-- ANY CABLE BEGINS A CODE
+pub first-record : (d : Drawing) (u w k : ℕ) → Rec
+first-record d u w k = record { i = 0; j = 1; ki = kind d u; c = k; kj = kind d w }
+
+pub first-fits : (d : Drawing) → Simple d → (u w k : ℕ) → Has u w k (d .cables) → Fits d (first-record d u w k ∷ [])
+unfolding read-rows cable-of first-record
+first-fits d s u w k h =
+    record {
+      accepted = let g = begun-to-test e refl refl in rows-one fresh e (g .0) (g .1);
+      numbering = f;
+      embedding = subst (λ (y : Reading). Embedding (drawn y) d f) (sym (begun-is e)) embedding;
+    }
+  where
+    e : Rec
+    e = first-record d u w k
+
+    f : List ℕ
+    f = u ∷ w ∷ []
+
+    ends-differ : u ≡ w → ⊥
+    ends-differ z = s .loopless u k (has-eq refl (sym z) refl h)
+
+    injective : (i j : ℕ) → i < 2 → j < 2 → image (u ∷ w ∷ []) i ≡ image (u ∷ w ∷ []) j → i ≡ j
+    injective zero zero a b z = refl
+    injective zero (suc zero) a b z = absurd (ends-differ z)
+    injective zero (suc (suc j)) a b z = absurd (omega arith)
+    injective (suc zero) zero a b z = absurd (ends-differ (sym z))
+    injective (suc zero) (suc zero) a b z = refl
+    injective (suc zero) (suc (suc j)) a b z = absurd (omega arith)
+    injective (suc (suc i)) j a b z = absurd (omega arith)
+
+    lands : (i : ℕ) → i < 2 → image (u ∷ w ∷ []) i < devices d
+    lands zero a = s .ends u w k h
+    lands (suc zero) a = s .ends w u k (has-flip h)
+    lands (suc (suc i)) a = absurd (omega arith)
+
+    kinds : (i : ℕ) → i < 2 → kind d (image (u ∷ w ∷ []) i) ≡ getD (kind d u ∷ kind d w ∷ []) i 256
+    kinds zero a = refl
+    kinds (suc zero) a = refl
+    kinds (suc (suc i)) a = absurd (omega arith)
+
+    cables : (a b l : ℕ) → Has a b l (cable-of (first-record d u w k) ∷ []) → Has (image (u ∷ w ∷ []) a) (image (u ∷ w ∷ []) b) l (d .cables)
+    cables a b l (Has.here (along y z) q) = has-eq (ap (image (u ∷ w ∷ [])) y) (ap (image (u ∷ w ∷ [])) z) q h
+    cables a b l (Has.here (against y z) q) = has-flip (has-eq (ap (image (u ∷ w ∷ [])) y) (ap (image (u ∷ w ∷ [])) z) q h)
+    cables a b l (Has.there g) = elim g [ ]
+
+    embedding : Embedding (drawn (begun e)) d f
+    embedding = record { size = refl; injective = injective; lands = lands; kinds = kinds; cables = cables }
+
+some-cable : (cs : List Cable) → 1 ≤ length cs → (u : ℕ) × (w : ℕ) × (k : ℕ) × Has u w k cs
+some-cable [] h = absurd (omega arith)
+some-cable (c ∷ cs) h = (c .a, c .b, c .kind, has-first c cs)
+
+module _ (labels : Rec → Rec → Bool) (o : Label-order labels) (d : Drawing) (p : Pattern d) where
+  -- WHAT A SEARCH KEEPS: rows that fit, each the least that goes on, and every numbering tight
+  pub record State (r : Rec) (rs : List Rec) : Type 0 where
+    pub fits : Fits d (r ∷ rs)
+    pub greedy : Greedy labels d [] (r ∷ rs)
+    pub tight : All-tight d (read-rows fresh (r ∷ rs))
+
+  pub state-begun : (n : Least-extension labels d []) → State (n .e) []
+  unfolding Greedy read-rows
+  state-begun n =
+      let g = fits-one d (n .e) (n .fits) in
+      record {
+        fits = n .fits;
+        greedy = (n .least, tt);
+        tight = subst (All-tight d) (sym (begun-is (n .e))) (tight-begun d (p .simple) (n .e) (g .0) (g .1));
+      }
+
+  pub state-step : (r : Rec) (rs : List Rec) → State r rs → (n : Least-extension labels d (r ∷ rs)) → State r (snoc rs (n .e))
+  state-step r rs s n =
+      record {
+        fits = n .fits;
+        greedy = greedy-snoc labels d [] (r ∷ rs) (n .e) (s .greedy) (n .least);
+        tight =
+            subst (All-tight d) (sym (read-snoc fresh (r ∷ rs) (n .e) ∙ stepped-is x v (n .e) (t .step)))
+            (tight-step labels d p x v (s .tight) (n .e) (λ l q. n .least l (extension-fits d r rs l (s .fits .accepted) q)) (t .step));
+      }
+    where
+      x : Reading
+      x = read-rows fresh (r ∷ rs)
+
+      v : Invariant x
+      v = rows-invariant r rs (s .fits .accepted)
+
+      t : Extension d x (n .e)
+      t = fits-extension d r rs (n .e) (n .fits)
+
+  -- a state goes on, or is a code
+  ahead : (r : Rec) (rs : List Rec) → State r rs → Some-extension d (read-rows fresh (r ∷ rs)) ⊎ Coded d (r ∷ rs)
+  unfolding decoded
+  ahead r rs s = go (progress d p (read-rows fresh (r ∷ rs)) (rows-invariant r rs ok) f (s .fits .embedding) (s .tight f (s .fits .embedding)))
+    where
+      f : List ℕ
+      f = s .fits .numbering
+
+      ok : rows-refusal fresh (r ∷ rs) ≡ 0
+      ok = s .fits .accepted
+
+      go :
+          Some-extension d (read-rows fresh (r ∷ rs)) ⊎ Isomorphism (drawn (read-rows fresh (r ∷ rs))) d (s .fits .numbering)
+          → Some-extension d (read-rows fresh (r ∷ rs)) ⊎ Coded d (r ∷ rs)
+      go (inl e) = inl e
+      go (inr i) = inr (record { one = omega arith; accepted = ok; numbering = f; isomorphism = i })
+
+  -- rows that fit are no more than the cables
+  fits-length : (r : Rec) (rs : List Rec) → Fits d (r ∷ rs) → length (r ∷ rs) ≤ length (d .cables)
+  unfolding decoded
+  fits-length r rs t =
+      omega (arith, decoded-cables (r ∷ rs), embedding-cables (decoded (r ∷ rs)) d (t .numbering) (decoded-simple r rs (t .accepted)) (t .embedding))
+
+  -- with fewer records than cables a state has a least extension
+  pub state-next : (r : Rec) (rs : List Rec) → State r rs → length (r ∷ rs) < length (d .cables) → Least-extension labels d (r ∷ rs)
+  state-next r rs s h = go (ahead r rs s)
+    where
+      go : Some-extension d (read-rows fresh (r ∷ rs)) ⊎ Coded d (r ∷ rs) → Least-extension labels d (r ∷ rs)
+      go (inl m) = least-extension labels o d (r ∷ rs) (m .0) (extension-fits d r rs (m .0) (s .fits .accepted) (m .1))
+      go (inr c) = absurd (omega (arith, coded-length d (p .simple) (r ∷ rs) c))
+
+  -- with as many it is a code
+  pub state-coded : (r : Rec) (rs : List Rec) → State r rs → length (r ∷ rs) ≡ length (d .cables) → Coded d (r ∷ rs)
+  state-coded r rs s h = go (ahead r rs s)
+    where
+      go : Some-extension d (read-rows fresh (r ∷ rs)) ⊎ Coded d (r ∷ rs) → Coded d (r ∷ rs)
+      go (inl m) =
+          absurd
+          (omega (arith, fits-length r (snoc rs (m .0)) (extension-fits d r rs (m .0) (s .fits .accepted) (m .1)), snoc-length rs (m .0)))
+      go (inr c) = c
+
+  -- and least
+  pub state-least : (r : Rec) (rs : List Rec) → State r rs → length (r ∷ rs) ≡ length (d .cables) → Least-by labels d (r ∷ rs)
+  state-least r rs s h = greedy-least d (p .simple) labels o (p .cables-high) (r ∷ rs) (s .greedy) (state-coded r rs s h)
+
+  -- the first record of a search
+  pub first-extension : Least-extension labels d []
+  first-extension =
+      let c = some-cable (d .cables) (p .cables-low) in
+      least-extension labels o d [] (first-record d (c .0) (c .1) (c .2)) (first-fits d (p .simple) (c .0) (c .1) (c .2) (c .3))
+
+  record Complete : Type 0 where
+    r : Rec
+    rs : List Rec
+    state : State r rs
+    all : length (r ∷ rs) ≡ length (d .cables)
+
+  complete : (n : ℕ) (r : Rec) (rs : List Rec) → length (r ∷ rs) + n ≡ length (d .cables) → State r rs → Complete
+  complete zero r rs e s = record { r = r; rs = rs; state = s; all = omega arith }
+  complete (suc n) r rs e s =
+      let q = state-next r rs s (omega arith) in
+      complete n r (snoc rs (q .e)) (omega (arith, snoc-length rs (q .e))) (state-step r rs s q)
+
+  greedy-complete : Complete
+  greedy-complete =
+      let q = first-extension in
+      complete (length (d .cables) - 1) (q .e) [] (omega (arith, p .cables-low)) (state-begun q)
+
+  -- EVERY PATTERN HAS A LEAST CODE
+  pub least-there : (rs : List Rec) × Least-by labels d rs
+  least-there = let c = greedy-complete in (c .r ∷ c .rs, state-least (c .r) (c .rs) (c .state) (c .all))
+
+  -- THE LEAST CODE IS GREEDY
+  pub least-greedy : (rs : List Rec) → Least-by labels d rs → Greedy labels d [] rs
+  least-greedy rs l =
+      let c = greedy-complete in
+      rw (least-unique labels o d rs (c .r ∷ c .rs) l (state-least (c .r) (c .rs) (c .state) (c .all))) (c .state .greedy)
+
+-- THE TEST: good rows are the least code of what they describe if they are greedy there
+module _ (labels : Rec → Rec → Bool) (o : Label-order labels) where
+  pub greedy-least-itself : (r : Rec) (rs : List Rec) → rows-good (r ∷ rs) ≡ true → Greedy labels (decoded (r ∷ rs)) [] (r ∷ rs) → Least-by labels (decoded (r ∷ rs)) (r ∷ rs)
+  greedy-least-itself r rs g h =
+      let w = good-from-test (r ∷ rs) g in
+      greedy-least (decoded (r ∷ rs)) (decoded-simple r rs (w .accepted)) labels o (omega (arith, decoded-cables (r ∷ rs), w .most)) (r ∷ rs) h
+      (coded-itself r rs (w .accepted))
+
+  -- A PREFIX OF A LEAST CODE IS LEAST, of the drawing that the prefix describes
+  pub prefix-of-least-is-least :
+      (d : Drawing) → Pattern d → (r : Rec) (rs ss : List Rec) → Least-by labels d (r ∷ rs ++ ss) → Least-by labels (decoded (r ∷ rs)) (r ∷ rs)
+  unfolding decoded
+  prefix-of-least-is-least d p r rs ss l =
+      greedy-least e (decoded-simple r rs (t .accepted)) labels o (omega (arith, decoded-cables (r ∷ rs), length-append rs ss, most)) (r ∷ rs)
+      (greedy-within labels d e (fits-through e d (t .numbering) (t .embedding)) [] (r ∷ rs)
+      (greedy-prefix labels d [] (r ∷ rs) ss (least-greedy labels o d p (r ∷ rs ++ ss) l)))
+      (coded-itself r rs (t .accepted))
+    where
+      e : Drawing
+      e = decoded (r ∷ rs)
+
+      t : Fits d (r ∷ rs)
+      t = fits-prefix d (r ∷ rs) ss (coded-fits (coded-from-test d (p .simple) (r ∷ rs ++ ss) (l .code)))
+
+      most : length (r ∷ rs ++ ss) ≤ 20
+      most = good-from-test (r ∷ rs ++ ss) (l .code .good) .most

@@ -1,0 +1,16 @@
+pub mod Code
+pub mod CodeOrder
+pub mod Step
+pub mod Reading
+pub mod Rows
+pub mod Extension
+pub mod Tight
+pub mod Greedy
+pub mod LeastExtension
+pub mod FullCode
+pub mod LeastCode
+pub mod Decoded
+pub mod CodeBytes
+pub mod CodesTell
+pub mod Promise
+pub mod Proved

@@ -1,0 +1,184 @@
+-- The test `is-pattern` is the record `Pattern`, and an accepted drawing record reads as a pattern; lists of bytes.
+-- Rests on Simple and Connected. Assumes nothing.
+use mathlib.Core.Path.{_≡_, refl, _∙_}
+use mathlib.Core.Bool.{Bool, true, false, _&&_, not, cond}
+use mathlib.Core.List.{List, [], _∷_, _++_}
+use Prim.Native.Nat.{ℕ, zero, suc, _≤_, _<_}
+use native.Mathlib.Nat.{not-suc-le-zero, le-of-suc-le-suc}
+use native.Mathlib.Omega.{arith}
+use lib.Dec.{ltb, leb, eqb}
+use borrow.Author.Tests.{ltb-true, leb-true, eqb-true, eqb-false, le-leb, eq-eqb}
+use lib.ListN.{length, getD, take, drop, take-append-drop, length-drop, length-map}
+use lib.Seq.{length-take-le}
+use Rattle.laws.specs.Tests.{and-split, and-both, passes}
+use Rattle.laws.specs.Rows.{rows, rows-length}
+use Rattle.graphs.specs.Drawing.{Drawing, devices, cable-in, cables-in, drawing-in, byte-list, is-pattern}
+use Rattle.graphs.specs.Drawing.{cable-refusal, unused-zero, connected, drawing-refusal, accepted}
+use Rattle.graphs.specs.Graph.{Simple, Pattern}
+use Rattle.graphs.specs.Simple.{simple-from-test, simple-to-test}
+use Rattle.graphs.specs.Connected.{connected-from-test, connected-to-test}
+
+-- LISTS OF BYTES
+pub byte-list-append : (xs ys : List ℕ) → byte-list xs ≡ true → byte-list ys ≡ true → byte-list (xs ++ ys) ≡ true
+unfolding byte-list
+byte-list-append [] ys p q = q
+byte-list-append (x ∷ xs) ys p q = let s = and-split (ltb x 256) (byte-list xs) p in and-both (s .0) (byte-list-append xs ys (s .1) q)
+
+pub byte-list-split : (xs ys : List ℕ) → byte-list (xs ++ ys) ≡ true → (byte-list xs ≡ true) × (byte-list ys ≡ true)
+unfolding byte-list
+byte-list-split [] ys p = (refl, p)
+byte-list-split (x ∷ xs) ys p =
+    let s = and-split (ltb x 256) (byte-list (xs ++ ys)) p in
+    let r = byte-list-split xs ys (s .1) in
+    (and-both (s .0) (r .0), r .1)
+
+pub byte-list-take : (n : ℕ) (xs : List ℕ) → byte-list xs ≡ true → byte-list (take n xs) ≡ true
+byte-list-take n xs p = byte-list-split (take n xs) (drop n xs) (rw take-append-drop p) .0
+
+pub byte-list-drop : (n : ℕ) (xs : List ℕ) → byte-list xs ≡ true → byte-list (drop n xs) ≡ true
+byte-list-drop n xs p = byte-list-split (take n xs) (drop n xs) (rw take-append-drop p) .1
+
+pub byte-list-at : (xs : List ℕ) (i d : ℕ) → byte-list xs ≡ true → i < length xs → getD xs i d < 256
+unfolding byte-list
+byte-list-at [] i d p h = absurd (not-suc-le-zero h)
+byte-list-at (x ∷ xs) zero d p h = ltb-true x 256 (and-split (ltb x 256) (byte-list xs) p .0)
+byte-list-at (x ∷ xs) (suc i) d p h = byte-list-at xs i d (and-split (ltb x 256) (byte-list xs) p .1) (le-of-suc-le-suc h)
+
+-- A PATTERN: an accepted drawing, whatever its device numbers and the order of its cables
+pub pattern-from-test : (p : Drawing) → is-pattern p ≡ true → Pattern p
+unfolding is-pattern
+pattern-from-test p h =
+    let n = devices p in
+    let m = length (p .cables) in
+    let r = cable-refusal n [] (p .cables) in
+    let halves = and-split ((leb 2 n && leb n 10) && (leb 1 m && leb m 20)) (byte-list (p .kinds) && (eqb r 0 && connected p)) h in
+    let counts = and-split (leb 2 n && leb n 10) (leb 1 m && leb m 20) (halves .0) in
+    let ns = and-split (leb 2 n) (leb n 10) (counts .0) in
+    let ms = and-split (leb 1 m) (leb m 20) (counts .1) in
+    let rest = and-split (byte-list (p .kinds)) (eqb r 0 && connected p) (halves .1) in
+    let graph = and-split (eqb r 0) (connected p) (rest .1) in
+    let low : 2 ≤ devices p = leb-true 2 n (ns .0) in
+    let simple = simple-from-test p (eqb-true r 0 (graph .0)) in
+    record {
+      devices-low = low;
+      devices-high = leb-true n 10 (ns .1);
+      cables-low = leb-true 1 m (ms .0);
+      cables-high = leb-true m 20 (ms .1);
+      bytes = rest .0;
+      simple = simple;
+      connected = connected-from-test p (simple .ends) (omega arith) (graph .1);
+    }
+
+pub pattern-to-test : (p : Drawing) → Pattern p → is-pattern p ≡ true
+unfolding is-pattern
+pattern-to-test p w =
+    let n = devices p in
+    let m = length (p .cables) in
+    let ns = and-both (le-leb 2 n (w .devices-low)) (le-leb n 10 (w .devices-high)) in
+    let ms = and-both (le-leb 1 m (w .cables-low)) (le-leb m 20 (w .cables-high)) in
+    let simple = eq-eqb (cable-refusal n [] (p .cables)) 0 (simple-to-test p (w .simple)) in
+    let joined = connected-to-test p (w .simple .ends) (omega (arith, w .devices-low)) (w .connected) in
+    and-both (and-both ns ms) (and-both (w .bytes) (and-both simple joined))
+
+-- AN ACCEPTED RECORD, part by part
+pub record Accepted-parts (bs : List ℕ) : Type 0 where
+  pub size : length bs ≡ 72
+  pub devices-low : 2 ≤ getD bs 0 0
+  pub devices-high : getD bs 0 0 ≤ 10
+  pub cables-low : 1 ≤ getD bs 1 0
+  pub cables-high : getD bs 1 0 ≤ 20
+  pub cables-good : cable-refusal (getD bs 0 0) [] (drawing-in bs .cables) ≡ 0
+  pub unused : unused-zero bs ≡ true
+  pub is-connected : connected (drawing-in bs) ≡ true
+  pub device-count : devices (drawing-in bs) ≡ getD bs 0 0
+  pub cable-count : length (drawing-in bs .cables) ≡ getD bs 1 0
+
+-- as many cables are read as the second byte says
+pub cables-in-length : (m : ℕ) (bs : List ℕ) → length (cables-in m bs) ≡ m
+unfolding cables-in
+cables-in-length m bs = length-map (rows 3 m bs) cable-in ∙ rows-length 3 m bs
+
+-- a refusal that another test gives
+passes-given : (r x : ℕ) → cond (not (eqb r 0)) r x ≡ 0 → (r ≡ 0) × (x ≡ 0)
+passes-given r x e = go (eqb r 0) refl e
+  where
+    go : (t : Bool) → eqb r 0 ≡ t → cond (not t) r x ≡ 0 → (r ≡ 0) × (x ≡ 0)
+    go true p q = (eqb-true r 0 p, q)
+    go false p q = absurd (eqb-false r 0 p q)
+
+-- the last refusal of a chain
+passes-last : (b : Bool) → cond {A = ℕ} b 0 8 ≡ 0 → b ≡ true
+passes-last true e = refl
+passes-last false e = absurd (omega arith)
+
+-- a record is accepted exactly if it has these parts
+pub accepted-parts : (bs : List ℕ) → drawing-refusal bs ≡ 0 → Accepted-parts bs
+unfolding drawing-refusal drawing-in
+accepted-parts bs e =
+    let n = getD bs 0 0 in
+    let m = getD bs 1 0 in
+    let d = drawing-in bs in
+    let whole = passes (eqb (length bs) 72) 1 _ (λ x. omega arith) e in
+    let few = passes (leb 2 n && leb n 10) 2 _ (λ x. omega arith) (whole .1) in
+    let thin = passes (leb 1 m && leb m 20) 3 _ (λ x. omega arith) (few .1) in
+    let good = passes-given (cable-refusal n [] (d .cables)) _ (thin .1) in
+    let rest = passes (unused-zero bs) 7 _ (λ x. omega arith) (good .1) in
+    let ns = and-split (leb 2 n) (leb n 10) (few .0) in
+    let ms = and-split (leb 1 m) (leb m 20) (thin .0) in
+    let size : length bs ≡ 72 = eqb-true (length bs) 72 (whole .0) in
+    let high : getD bs 0 0 ≤ 10 = leb-true n 10 (ns .1) in
+    record {
+      size = size;
+      devices-low = leb-true 2 n (ns .0);
+      devices-high = high;
+      cables-low = leb-true 1 m (ms .0);
+      cables-high = leb-true m 20 (ms .1);
+      cables-good = good .0;
+      unused = rest .0;
+      is-connected = passes-last (connected d) (rest .1);
+      device-count = length-take-le n (drop 2 bs) (rw length-drop (omega arith));
+      cable-count = cables-in-length m (drop 12 bs);
+    }
+
+pub refusal-zero : (bs : List ℕ) → Accepted-parts bs → drawing-refusal bs ≡ 0
+unfolding drawing-refusal
+refusal-zero bs a =
+    rw (
+      eq-eqb (length bs) 72 (a .size),
+      le-leb 2 n (a .devices-low),
+      le-leb n 10 (a .devices-high),
+      le-leb 1 m (a .cables-low),
+      le-leb m 20 (a .cables-high),
+      a .cables-good,
+      a .unused,
+      a .is-connected,
+    )
+  where
+    n : ℕ
+    n = getD bs 0 0
+
+    m : ℕ
+    m = getD bs 1 0
+
+-- ACCEPTED BYTES are a pattern
+pub accepted-pattern : (bs : List ℕ) → accepted bs ≡ true → Pattern (drawing-in bs)
+unfolding accepted
+accepted-pattern bs h =
+    let s = and-split (byte-list bs) (eqb (drawing-refusal bs) 0) h in
+    let a = accepted-parts bs (eqb-true (drawing-refusal bs) 0 (s .1)) in
+    go (s .0) a (simple-from-test (drawing-in bs) (rw (a .device-count) (a .cables-good)))
+  where
+    kinds : byte-list bs ≡ true → byte-list (drawing-in bs .kinds) ≡ true
+    kinds p = unfold drawing-in in byte-list-take (getD bs 0 0) (drop 2 bs) (byte-list-drop 2 bs p)
+
+    go : byte-list bs ≡ true → Accepted-parts bs → Simple (drawing-in bs) → Pattern (drawing-in bs)
+    go p a s =
+        record {
+          devices-low = omega (arith, a .device-count, a .devices-low);
+          devices-high = omega (arith, a .device-count, a .devices-high);
+          cables-low = omega (arith, a .cable-count, a .cables-low);
+          cables-high = omega (arith, a .cable-count, a .cables-high);
+          bytes = kinds p;
+          simple = s;
+          connected = connected-from-test (drawing-in bs) (s .ends) (omega (arith, a .device-count, a .devices-low)) (a .is-connected);
+        }

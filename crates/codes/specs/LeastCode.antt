@@ -18,8 +18,8 @@ use Rattle.codes.specs.Code.{Rec, Reading, fresh, cable-of, begun, rows-
 use Rattle.codes.specs.CodeOrder.{Label-order}
 use Rattle.codes.specs.Reading.{Invariant}
 use Rattle.codes.specs.Rows.{stepped-is, begun-is, begun-to-test, rows-one, read-snoc, rows-invariant, decoded-cables, good-from-test}
-use Rattle.codes.specs.Extension.{Extension}
-use Rattle.codes.specs.Tight.{Tight, All-tight, tight-begun, tight-step, Some-extension, progress}
+use Rattle.codes.specs.Extension.{Extension, Local, seen-extension}
+use Rattle.codes.specs.Tight.{Tight, All-tight, tight-begun, tight-step, Some-local, progress}
 use Rattle.codes.specs.Greedy.{Fits, fits-one, fits-extension, extension-fits, fits-prefix, fits-through, Greedy, greedy-snoc, greedy-prefix, greedy-within}
 use Rattle.codes.specs.LeastExtension.{Least-extension, least-extension}
 use Rattle.codes.specs.FullCode.{
@@ -123,20 +123,29 @@ module _ (labels : Rec → Rec → Bool) (o : Label-order labels) (d : Drawing) 
       t = fits-extension d r rs (n .e) (n .fits)
 
   -- a state goes on, or is a code
-  ahead : (r : Rec) (rs : List Rec) → State r rs → Some-extension d (read-rows fresh (r ∷ rs)) ⊎ Coded d (r ∷ rs)
+  ahead : (r : Rec) (rs : List Rec) → State r rs → ((e : Rec) × Fits d (snoc (r ∷ rs) e)) ⊎ Coded d (r ∷ rs)
   unfolding decoded
-  ahead r rs s = go (progress d p (read-rows fresh (r ∷ rs)) (rows-invariant r rs ok) f (s .fits .embedding) (s .tight f (s .fits .embedding)))
+  ahead r rs s = go (progress d p x v f (s .fits .embedding) (s .tight f (s .fits .embedding)))
     where
+      x : Reading
+      x = read-rows fresh (r ∷ rs)
+
       f : List ℕ
       f = s .fits .numbering
 
       ok : rows-refusal fresh (r ∷ rs) ≡ 0
       ok = s .fits .accepted
 
-      go :
-          Some-extension d (read-rows fresh (r ∷ rs)) ⊎ Isomorphism (drawn (read-rows fresh (r ∷ rs))) d (s .fits .numbering)
-          → Some-extension d (read-rows fresh (r ∷ rs)) ⊎ Coded d (r ∷ rs)
-      go (inl e) = inl e
+      v : Invariant x
+      v = rows-invariant r rs ok
+
+      more : (e : Rec) → Local d x f e → Fits d (snoc (r ∷ rs) e)
+      more e h =
+          extension-fits d r rs e ok
+          (seen-extension d (p .devices-high) (p .simple .ends) x v e (record { numbering = f; embedding = s .fits .embedding; local = h }))
+
+      go : Some-local d x f ⊎ Isomorphism (drawn x) d f → ((e : Rec) × Fits d (snoc (r ∷ rs) e)) ⊎ Coded d (r ∷ rs)
+      go (inl e) = inl (e .0, more (e .0) (e .1))
       go (inr i) = inr (record { one = omega arith; accepted = ok; numbering = f; isomorphism = i })
 
   -- rows that fit are no more than the cables
@@ -149,18 +158,17 @@ module _ (labels : Rec → Rec → Bool) (o : Label-order labels) (d : Drawing) 
   pub state-next : (r : Rec) (rs : List Rec) → State r rs → length (r ∷ rs) < length (d .cables) → Least-extension labels d (r ∷ rs)
   state-next r rs s h = go (ahead r rs s)
     where
-      go : Some-extension d (read-rows fresh (r ∷ rs)) ⊎ Coded d (r ∷ rs) → Least-extension labels d (r ∷ rs)
-      go (inl m) = least-extension labels o d (r ∷ rs) (m .0) (extension-fits d r rs (m .0) (s .fits .accepted) (m .1))
+      go : ((e : Rec) × Fits d (snoc (r ∷ rs) e)) ⊎ Coded d (r ∷ rs) → Least-extension labels d (r ∷ rs)
+      go (inl m) = least-extension labels o d (r ∷ rs) (m .0) (m .1)
       go (inr c) = absurd (omega (arith, coded-length d (p .simple) (r ∷ rs) c))
 
   -- with as many it is a code
   pub state-coded : (r : Rec) (rs : List Rec) → State r rs → length (r ∷ rs) ≡ length (d .cables) → Coded d (r ∷ rs)
   state-coded r rs s h = go (ahead r rs s)
     where
-      go : Some-extension d (read-rows fresh (r ∷ rs)) ⊎ Coded d (r ∷ rs) → Coded d (r ∷ rs)
+      go : ((e : Rec) × Fits d (snoc (r ∷ rs) e)) ⊎ Coded d (r ∷ rs) → Coded d (r ∷ rs)
       go (inl m) =
-          absurd
-          (omega (arith, fits-length r (snoc rs (m .0)) (extension-fits d r rs (m .0) (s .fits .accepted) (m .1)), snoc-length rs (m .0)))
+          absurd (omega (arith, fits-length r (snoc rs (m .0)) (m .1), snoc-length rs (m .0)))
       go (inr c) = c
 
   -- and least

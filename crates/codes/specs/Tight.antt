@@ -22,16 +22,7 @@ use Rattle.codes.specs.Code.{Rec, Reading, end, cut-to, cable-of, begun,
 use Rattle.codes.specs.CodeOrder.{backward-before-forward, backward-not-before, forward-not-before}
 use Rattle.codes.specs.Step.{Backward, Step, steps-back, steps-forward, after, cut-keeps, cut-second}
 use Rattle.codes.specs.Reading.{Invariant}
-use Rattle.codes.specs.Extension.{
-  Extension,
-  Shortened,
-  unbackward,
-  unforward,
-  edge-record,
-  chord-record,
-  edge-extension,
-  chord-extension,
-}
+use Rattle.codes.specs.Extension.{Extension, Local, chord-at, edge-at, unbackward, unforward, edge-record, chord-record, seen-extension}
 
 -- HOW A CABLE between u and v stands in a state, seen from u: listed; an edge from the path to a device without a number;
 -- a chord that is still permitted; or apart from all that was read
@@ -85,44 +76,39 @@ tight-begun d s e p q f m u w k h = go (decide-numbered f u) (decide-numbered f 
     go (inr a) (inl b) = inr (edge (b .i) (on (b .i) (b .below)) (b .is) a)
     go (inr a) (inr b) = inl (apart a b)
 
--- A LEAST STEP KEEPS A STATE TIGHT
-module _ (labels : Rec → Rec → Bool) (d : Drawing) (p : Pattern d) (x : Reading) (v : Invariant x) (tight : All-tight d x) (e : Rec)
-    (least : (l : Rec) → Extension d x l → rec-before-by labels l e ≡ false) where
+-- A STEP KEEPS A NUMBERING TIGHT if no record that is local to it comes before the step's
+module _ (labels : Rec → Rec → Bool) (d : Drawing) (p : Pattern d) (x : Reading) (v : Invariant x) (f : List ℕ) (m : Embedding (drawn x) d f)
+         (tight : Tight d x f) (e : Rec) (least : (l : Rec) → Local d x f l → rec-before-by labels l e ≡ false) where
   -- backward: the least j first, so the other chords keep a greater j
-  tight-backward : Backward x (e .i) (e .j) → All-tight d (backed x e)
-  unfolding cable-of chord-record
-  tight-backward o g m = λ u w k h. both u w k h (tight g (m′ .0) u w k h)
-    where
-      m′ : Embedding (drawn x) d g × Has (image g (e .i)) (image g (e .j)) (e .c) (d .cables)
-      m′ = unbackward d x v e g m
+  module _ (o : Backward x (e .i) (e .j)) where
+    not-lower : (i j k : ℕ) → Backward x i j → Has (image f i) (image f j) k (d .cables) → e .j ≤ j
+    unfolding chord-record
+    not-lower i j k b h =
+        backward-not-before labels (chord-record x i j k) e (b .down) (o .down) (least (chord-record x i j k) (chord-at b h refl refl))
 
-      not-lower : (i j k : ℕ) → Backward x i j → Has (image g i) (image g j) k (d .cables) → e .j ≤ j
-      not-lower i j k b h =
-          backward-not-before labels (chord-record x i j k) e (b .down) (o .down)
-          (least (chord-record x i j k) (chord-extension d (p .devices-high) (p .simple .ends) x v g (m′ .0) i j k b h))
+    chord-stands : (i j u w : ℕ) → Backward x i j → e .j ≤ j → image f i ≡ u → image f j ≡ w → Dec (e .j ≡ j) → Standing (backed x e) f u w
+    unfolding cable-of
+    chord-stands i j u w b le y z (yes t) =
+        listed (e .i) (e .j) (e .c) (has-last (x .cables) (along refl refl) refl) (ap (image f) (o .is-end ∙ sym (b .is-end)) ∙ y) (ap (image f) t ∙ z)
+    chord-stands i j u w b le y z (no t) =
+        chord i j (record { is-end = b .is-end; down = b .down; on-path = b .on-path; not-parent = b .not-parent; rising = inr (omega arith) }) y z
 
-      half : (u w k : ℕ) → Has u w k (d .cables) → Standing x g u w → Standing (backed x e) g u w
-      half u w k h (listed i j l c y z) = listed i j l (has-front (cable-of e ∷ []) c) y z
-      half u w k h (edge i on y out) = edge i on y out
-      half u w k h (apart a b) = apart a b
-      half u w k h (chord i j b y z) = go (ℕ-discrete (e .j) j)
-        where
-          le : e .j ≤ j
-          le = not-lower i j k b (has-eq (sym y) (sym z) refl h)
+    half-backward : (u w k : ℕ) → Has u w k (d .cables) → Standing x f u w → Standing (backed x e) f u w
+    half-backward u w k h (listed i j l c y z) = listed i j l (has-front (cable-of e ∷ []) c) y z
+    half-backward u w k h (edge i on y out) = edge i on y out
+    half-backward u w k h (apart a b) = apart a b
+    half-backward u w k h (chord i j b y z) =
+        chord-stands i j u w b (not-lower i j k b (has-eq (sym y) (sym z) refl h)) y z (ℕ-discrete (e .j) j)
 
-          go : Dec (e .j ≡ j) → Standing (backed x e) g u w
-          go (yes t) =
-              listed (e .i) (e .j) (e .c) (has-last (x .cables) (along refl refl) refl) (ap (image g) (o .is-end ∙ sym (b .is-end)) ∙ y) (ap (image g) t ∙ z)
-          go (no t) =
-              chord i j
-              (record { is-end = b .is-end; down = b .down; on-path = b .on-path; not-parent = b .not-parent; rising = inr (omega (arith, le)) }) y z
+    both-backward : (u w k : ℕ) → Has u w k (d .cables) → Stands x f u w → Stands (backed x e) f u w
+    both-backward u w k h (inl z) = inl (half-backward u w k h z)
+    both-backward u w k h (inr z) = inr (half-backward w u k (has-flip h) z)
 
-      both : (u w k : ℕ) → Has u w k (d .cables) → Stands x g u w → Stands (backed x e) g u w
-      both u w k h (inl z) = inl (half u w k h z)
-      both u w k h (inr z) = inr (half w u k (has-flip h) z)
+    pub tight-backward : Tight d (backed x e) f
+    tight-backward u w k h = both-backward u w k h (tight u w k h)
 
   -- forward from i: no chord is left, and i is the deepest path device with an edge, so what the path loses has none
-  module _ (o : Mem (e .i) (x .path)) (jn : e .j ≡ length (x .kinds)) (f : List ℕ) (new : ℕ) (m : Embedding (drawn x) d f) where
+  module _ (o : Mem (e .i) (x .path)) (jn : e .j ≡ length (x .kinds)) (new : ℕ) where
     i-below : e .i < e .j
     i-below = omega (arith, v .below (e .i) o)
 
@@ -143,13 +129,13 @@ module _ (labels : Rec → Rec → Bool) (d : Drawing) (p : Pattern d) (x : Read
     unfolding edge-record
     not-deeper i k w on n h =
         forward-not-before labels (edge-record d x i k w) e (v .below i on) i-below
-        (least (edge-record d x i k w) (edge-extension d (p .devices-high) (p .simple .ends) x v f m i k w on n h))
+        (least (edge-record d x i k w) (edge-at w on refl n h refl refl))
 
     no-chord : (i j k : ℕ) → Backward x i j → Has (image f i) (image f j) k (d .cables) → ⊥
     unfolding chord-record
     no-chord i j k b h =
         true-and-false (backward-before-forward labels (chord-record x i j k) e (b .down) i-below)
-        (least (chord-record x i j k) (chord-extension d (p .devices-high) (p .simple .ends) x v f m i j k b h))
+        (least (chord-record x i j k) (chord-at b h refl refl))
 
     -- a cable that was an edge
     edge-stands :
@@ -195,21 +181,30 @@ module _ (labels : Rec → Rec → Bool) (d : Drawing) (p : Pattern d) (x : Read
     both-forward u w k h (inl z) = half-forward u w k h z
     both-forward u w k h (inr z) = turned w u (half-forward w u k (has-flip h) z)
 
-  tight-forward : Mem (e .i) (x .path) → e .j ≡ length (x .kinds) → All-tight d (forwarded x e)
-  tight-forward o jn g m = go (unforward d x v e g (v .below (e .i) o) jn m)
-    where
-      go : Shortened d x e g → Tight d (forwarded x e) g
-      go s =
-          subst (Tight d (forwarded x e)) (sym (s .whole))
-          (λ u w k h. both-forward o jn (s .f) (s .w) (s .embedding) u w k h (tight (s .f) (s .embedding) u w k h))
+    pub tight-forward : Tight d (forwarded x e) (snoc f new)
+    tight-forward u w k h = both-forward u w k h (tight u w k h)
 
-  pub tight-step : (s : Step x e) → All-tight d (after s)
-  tight-step (steps-back o y z) = tight-backward o
-  tight-step (steps-forward o y z r) = tight-forward o y
+-- A LEAST STEP KEEPS EVERY NUMBERING TIGHT
+pub tight-step :
+    (labels : Rec → Rec → Bool) (d : Drawing) → Pattern d → (x : Reading) → Invariant x → All-tight d x → (e : Rec)
+    → ((l : Rec) → Extension d x l → rec-before-by labels l e ≡ false) → (s : Step x e) → All-tight d (after s)
+tight-step labels d p x v tight e least s = go s
+  where
+    locally : (f : List ℕ) → Embedding (drawn x) d f → (l : Rec) → Local d x f l → rec-before-by labels l e ≡ false
+    locally f m l h = least l (seen-extension d (p .devices-high) (p .simple .ends) x v l (record { numbering = f; embedding = m; local = h }))
 
--- A TIGHT STATE HAS AN EXTENSION, OR IS FULL
-abbrev pub Some-extension : Drawing → Reading → Type 0
-Some-extension d x = (e : Rec) × Extension d x e
+    go : (s : Step x e) → All-tight d (after s)
+    go (steps-back o y z) g m =
+        let q = unbackward d x v e g m .0 in
+        tight-backward labels d p x v g q (tight g q) e (locally g q) o
+    go (steps-forward o y z r) g m =
+        let q = unforward d x v e g (v .below (e .i) o) y m in
+        subst (Tight d (forwarded x e)) (sym (q .whole))
+        (tight-forward labels d p x v (q .f) (q .embedding) (tight (q .f) (q .embedding)) e (locally (q .f) (q .embedding)) o y (q .w))
+
+-- A TIGHT STATE HAS A LOCAL RECORD, OR IS FULL
+abbrev pub Some-local : Drawing → Reading → List ℕ → Type 0
+Some-local d x f = (e : Rec) × Local d x f e
 
 module _ (d : Drawing) (p : Pattern d) (x : Reading) (v : Invariant x) (f : List ℕ) (m : Embedding (drawn x) d f) where
   -- listed, or with no number at either end
@@ -224,26 +219,27 @@ module _ (d : Drawing) (p : Pattern d) (x : Reading) (v : Invariant x) (f : List
   done-eq : {u w u′ w′ : ℕ} → u ≡ u′ → w ≡ w′ → Done u w → Done u′ w′
   done-eq y z t = rw (← y, ← z) t
 
-  look : (u w k : ℕ) → Has u w k (d .cables) → Standing x f u w → Some-extension d x ⊎ Done u w
+  look : (u w k : ℕ) → Has u w k (d .cables) → Standing x f u w → Some-local d x f ⊎ Done u w
+  unfolding edge-record chord-record
   look u w k h (listed i j l c y z) = inr (was-listed i j l c y z)
   look u w k h (edge i on y n) =
-      inl (edge-record d x i k w, edge-extension d (p .devices-high) (p .simple .ends) x v f m i k w on n (has-eq (sym y) refl refl h))
+      inl (edge-record d x i k w, edge-at w on refl n (has-eq (sym y) refl refl h) refl refl)
   look u w k h (chord i j b y z) =
-      inl (chord-record x i j k, chord-extension d (p .devices-high) (p .simple .ends) x v f m i j k b (has-eq (sym y) (sym z) refl h))
+      inl (chord-record x i j k, chord-at b (has-eq (sym y) (sym z) refl h) refl refl)
   look u w k h (apart a b) = inr (outside a b)
 
-  look-both : (u w k : ℕ) → Has u w k (d .cables) → Stands x f u w → Some-extension d x ⊎ Done u w
+  look-both : (u w k : ℕ) → Has u w k (d .cables) → Stands x f u w → Some-local d x f ⊎ Done u w
   look-both u w k h (inl z) = look u w k h z
   look-both u w k h (inr z) = flip (look w u k (has-flip h) z)
     where
-      flip : Some-extension d x ⊎ Done w u → Some-extension d x ⊎ Done u w
+      flip : Some-local d x f ⊎ Done w u → Some-local d x f ⊎ Done u w
       flip (inl y) = inl y
       flip (inr y) = inr (done-flip y)
 
   abbrev All-done : List Cable → Type 0
   All-done cs = (u w k : ℕ) → Has u w k cs → Done u w
 
-  scan : Tight d x f → (cs : List Cable) → ((u w k : ℕ) → Has u w k cs → Has u w k (d .cables)) → Some-extension d x ⊎ All-done cs
+  scan : Tight d x f → (cs : List Cable) → ((u w k : ℕ) → Has u w k cs → Has u w k (d .cables)) → Some-local d x f ⊎ All-done cs
   scan t [] s = inr (λ u w k h. elim h [ ])
   scan t (c ∷ cs) s = go (look-both (c .a) (c .b) (c .kind) first (t (c .a) (c .b) (c .kind) first)) (scan t cs (λ u w k h. s u w k (Has.there h)))
     where
@@ -255,7 +251,7 @@ module _ (d : Drawing) (p : Pattern d) (x : Reading) (v : Invariant x) (f : List
       each z r u w k (Has.here (against y t) l) = done-flip (done-eq y t z)
       each z r u w k (Has.there h) = r u w k h
 
-      go : Some-extension d x ⊎ Done (c .a) (c .b) → Some-extension d x ⊎ All-done cs → Some-extension d x ⊎ All-done (c ∷ cs)
+      go : Some-local d x f ⊎ Done (c .a) (c .b) → Some-local d x f ⊎ All-done cs → Some-local d x f ⊎ All-done (c ∷ cs)
       go (inl y) r = inl y
       go (inr y) (inl z) = inl z
       go (inr y) (inr z) = inr (each y z)
@@ -288,9 +284,9 @@ module _ (d : Drawing) (p : Pattern d) (x : Reading) (v : Invariant x) (f : List
           }
       each u w k h (outside a b) = absurd (numbered-clash (all u (p .simple .ends u w k h)) a)
 
-  pub progress : Tight d x f → Some-extension d x ⊎ Isomorphism (drawn x) d f
+  pub progress : Tight d x f → Some-local d x f ⊎ Isomorphism (drawn x) d f
   progress t = go (scan t (d .cables) (λ u w k h. h))
     where
-      go : Some-extension d x ⊎ All-done (d .cables) → Some-extension d x ⊎ Isomorphism (drawn x) d f
+      go : Some-local d x f ⊎ All-done (d .cables) → Some-local d x f ⊎ Isomorphism (drawn x) d f
       go (inl y) = inl y
       go (inr y) = inr (full y)

@@ -32,6 +32,11 @@ has-flip (there h) = there (has-flip h)
 pub has-eq : {u v k u′ v′ k′ : ℕ} {cs : List Cable} → u ≡ u′ → v ≡ v′ → k ≡ k′ → Has u v k cs → Has u′ v′ k′ cs
 has-eq p q r h = rw (← p, ← q, ← r) h
 
+-- what a cable's pair has, its own ends have
+pub has-between : {u v k : ℕ} {c : Cable} {cs : List Cable} → Joins u v c → Has u v k cs → Has (c .a) (c .b) k cs
+has-between (along p q) h = has-eq (sym p) (sym q) refl h
+has-between (against p q) h = has-eq (sym p) (sym q) refl (has-flip h)
+
 -- the first cable of a list
 pub has-first : (c : Cable) (cs : List Cable) → Has (c .a) (c .b) (c .kind) (c ∷ cs)
 has-first c cs = here (along refl refl) refl

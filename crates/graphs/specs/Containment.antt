@@ -7,6 +7,7 @@ use mathlib.Core.List.{List, [], _∷_}
 use Prim.Native.Nat.{ℕ, zero, suc, _+_, _≤_}
 use native.Mathlib.Omega.{arith}
 use lib.ListN.{length, getD}
+use Rattle.laws.specs.Tests.{same-truth}
 use Rattle.graphs.specs.Drawing.{Drawing, devices}
 use Rattle.graphs.specs.Map.{contains, Same}
 use Rattle.graphs.specs.Survey.{containing, count-true, support}
@@ -16,12 +17,6 @@ use Rattle.graphs.specs.Embeddings.{identity, embedding-identity, compos
 use Rattle.graphs.specs.Isomorphisms.{isomorphism-devices, isomorphism-from-test, isomorphism-to-test, same-symmetric}
 use Rattle.graphs.specs.CountingCables.{isomorphism-cables, embedding-full}
 use Rattle.graphs.specs.LeastMap.{contains-from-embedding, embedding-from-contains}
-
--- two tests that follow from each other
-same-truth : (a b : Bool) → (a ≡ true → b ≡ true) → (b ≡ true → a ≡ true) → a ≡ b
-same-truth true b to from = sym (to refl)
-same-truth false true to from = from refl
-same-truth false false to from = refl
 
 -- CONTAINMENT is a preorder
 pub contains-itself : (d : Drawing) → Ends-in-range d → contains d d ≡ true

@@ -8,57 +8,14 @@ use native.Mathlib.Omega.{arith}
 use native.Mathlib.Decide.{ℕ-discrete}
 use lib.ListN.{length, length-map}
 use Rattle.laws.specs.Lists.{Mem, mem-eq}
-use Rattle.laws.specs.Counting.{Different, different-fewer}
+use Rattle.laws.specs.Counting.{Different, different-fewer, different-covers}
 use Rattle.graphs.specs.Drawing.{Cable, Drawing, devices}
 use Rattle.graphs.specs.Map.{image}
-use Rattle.graphs.specs.Cables.{Joins, along, against, Has, has-flip, has-eq, has-first}
-use Rattle.graphs.specs.Embedding.{Embedding, Preimage, Isomorphism}
-use Rattle.graphs.specs.Graph.{Distinct, Simple}
+use Rattle.graphs.specs.Cables.{along, against, Has, has-flip, has-eq, has-first}
+use Rattle.graphs.specs.Embedding.{Embedding, Numbered, Preimage, Isomorphism}
+use Rattle.graphs.specs.Graph.{Distinct, Simple, Walk, stay, onward, Connected}
+use Rattle.graphs.specs.Simple.{distinct-single}
 use Rattle.graphs.specs.Isomorphisms.{embedding-onto}
-
--- AS MANY: different members of a list of equal length are all its members
-record Without {A : Type 0} (v : A) (ys : List A) : Type 0 where
-  rest : List A
-  count : length ys ≡ suc (length rest)
-  cases : (w : A) → Mem w ys → (w ≡ v) ⊎ Mem w rest
-
-without : {A : Type 0} {v : A} {ys : List A} → Mem v ys → Without v ys
-without {A} {v} (Mem.here {x = y} {xs = ys} e) = record { rest = ys; count = refl; cases = cases }
-  where
-    cases : (w : A) → Mem w (y ∷ ys) → (w ≡ v) ⊎ Mem w ys
-    cases w (Mem.here q) = inl (sym q ∙ e)
-    cases w (Mem.there m) = inr m
-without {A} {v} (Mem.there {x = y} {xs = ys} m) = go (without m)
-  where
-    go : Without v ys → Without v (y ∷ ys)
-    go s = record { rest = y ∷ s .rest; count = ap suc (s .count); cases = cases }
-      where
-        later : (w : A) → (w ≡ v) ⊎ Mem w (s .rest) → (w ≡ v) ⊎ Mem w (y ∷ s .rest)
-        later w (inl q) = inl q
-        later w (inr h) = inr (Mem.there h)
-
-        cases : (w : A) → Mem w (y ∷ ys) → (w ≡ v) ⊎ Mem w (y ∷ s .rest)
-        cases w (Mem.here q) = inr (Mem.here q)
-        cases w (Mem.there h) = later w (s .cases w h)
-
-different-covers : {A : Type 0} (xs ys : List A) → Different xs → ((v : A) → Mem v xs → Mem v ys) → length xs ≡ length ys
-    → (v : A) → Mem v ys → Mem v xs
-unfolding Different
-different-covers [] [] n s e v m = m
-different-covers [] (y ∷ ys) n s e v m = absurd (omega arith)
-different-covers {A} (x ∷ xs) ys n s e v m = go (without (s x (Mem.here refl))) (λ zs. different-covers xs zs (n .1))
-  where
-    other : (zs : List A) (w : A) → Mem w xs → (w ≡ x) ⊎ Mem w zs → Mem w zs
-    other zs w h (inl q) = absurd (n .0 (mem-eq q h))
-    other zs w h (inr k) = k
-
-    go : Without x ys → ((zs : List A) → ((w : A) → Mem w xs → Mem w zs) → length xs ≡ length zs → (w : A) → Mem w zs → Mem w xs) → Mem v (x ∷ xs)
-    go t ih = end (t .cases v m)
-      where
-        end : (v ≡ x) ⊎ Mem v (t .rest) → Mem v (x ∷ xs)
-        end (inl q) = Mem.here (sym q)
-        end (inr k) =
-            Mem.there (ih (t .rest) (λ w h. other (t .rest) w h (t .cases w (s w (Mem.there h)))) (omega (arith, t .count)) v k)
 
 -- PAIRS WITHOUT ORDER: the lower end, then the higher
 abbrev Pair : Type 0
@@ -137,19 +94,6 @@ keys-different g (c ∷ cs) n s =
         go (inl z) = n .0 (t .k) (same (t .u) (t .v) (c .a) (c .b) (c .kind) (t .has) (has-first c cs) (z .0) (z .1))
         go (inr z) = n .0 (t .k) (same (t .v) (t .u) (c .a) (c .b) (c .kind) (has-flip (t .has)) (has-first c cs) (z .1) (z .0))
 
--- a pair is joined by cables of one kind alone
-has-between : {u v k : ℕ} {c : Cable} {cs : List Cable} → Joins u v c → Has u v k cs → Has (c .a) (c .b) k cs
-has-between (along p q) h = has-eq (sym p) (sym q) refl h
-has-between (against p q) h = has-eq (sym p) (sym q) refl (has-flip h)
-
-pub distinct-kind : {u v k l : ℕ} (cs : List Cable) → Distinct cs → Has u v k cs → Has u v l cs → k ≡ l
-unfolding Distinct
-distinct-kind [] n h j = elim h [ ]
-distinct-kind (c ∷ cs) n (Has.here a e) (Has.here b q) = sym e ∙ q
-distinct-kind {l = l} (c ∷ cs) n (Has.here a e) (Has.there j) = absurd (n .0 l (has-between a j))
-distinct-kind {k = k} (c ∷ cs) n (Has.there h) (Has.here b q) = absurd (n .0 k (has-between b h))
-distinct-kind (c ∷ cs) n (Has.there h) (Has.there j) = distinct-kind cs (n .1) h j
-
 -- NUMBERS OF CABLES
 module _ (p d : Drawing) (f : List ℕ) (simple : Simple p) (m : Embedding p d f) where
   image-keys-different : Different (keys (image f) (p .cables))
@@ -185,30 +129,56 @@ pub isomorphism-cables : (p d : Drawing) (f : List ℕ) → Simple p → Simple 
 isomorphism-cables p d f a b s =
     omega (arith, embedding-cables p d f a (s .embedding), preimages-cables p d f (b .distinct) (s .cables-onto))
 
--- as many devices and as many cables: every device and every cable is met
-pub embedding-full : (p d : Drawing) (f : List ℕ) → Simple p → Simple d → Embedding p d f
-    → devices p ≡ devices d → length (p .cables) ≡ length (d .cables) → Isomorphism p d f
-embedding-full p d f simple target m e q = record { embedding = m; onto = embedding-onto p d f m e; cables-onto = onto }
+-- as many cables: every cable is met
+pub embedding-cables-onto : (p d : Drawing) (f : List ℕ) → Simple p → Simple d → Embedding p d f
+    → length (p .cables) ≡ length (d .cables) → (u v k : ℕ) → Has u v k (d .cables) → Preimage p f u v k
+embedding-cables-onto p d f simple target m q u v k h = find (keys-to-has (image f) (p .cables) met)
   where
     size : length (keys (image f) (p .cables)) ≡ length (keys (λ v. v) (d .cables))
     size = keys-length (image f) (p .cables) ∙ q ∙ sym (keys-length (λ v. v) (d .cables))
 
-    key-met : {u v k : ℕ} → Has u v k (d .cables) → Mem (key u v) (keys (image f) (p .cables))
-    key-met {u} {v} h =
+    met : Mem (key u v) (keys (image f) (p .cables))
+    met =
         different-covers (keys (image f) (p .cables)) (keys (λ v. v) (d .cables)) (image-keys-different p d f simple m)
         (image-keys-there p d f simple m) size (key u v) (keys-from-has (λ v. v) (d .cables) h)
 
-    onto : (u v k : ℕ) → Has u v k (d .cables) → Preimage p f u v k
-    onto u v k h = find (keys-to-has (image f) (p .cables) (key-met h))
-      where
-        meet : (i j l : ℕ) → Has i j l (p .cables) → image f i ≡ u → image f j ≡ v → Preimage p f u v k
-        meet i j l g a b =
-            let same : l ≡ k = distinct-kind (d .cables) (target .distinct) (has-eq a b refl (m .cables i j l g)) h in
-            record { i = i; j = j; has = has-eq refl refl same g; from = a; to = b }
+    meet : (i j l : ℕ) → Has i j l (p .cables) → image f i ≡ u → image f j ≡ v → Preimage p f u v k
+    meet i j l g a b =
+        let same : l ≡ k = distinct-single (d .cables) (target .distinct) u v l k (has-eq a b refl (m .cables i j l g)) h in
+        record { i = i; j = j; has = has-eq refl refl same g; from = a; to = b }
 
-        find : Keyed (image f) (p .cables) (key u v) → Preimage p f u v k
-        find t = go (key-cases (image f (t .u)) (image f (t .v)) u v (t .is))
-          where
-            go : ((image f (t .u) ≡ u) × (image f (t .v) ≡ v)) ⊎ ((image f (t .u) ≡ v) × (image f (t .v) ≡ u)) → Preimage p f u v k
-            go (inl z) = meet (t .u) (t .v) (t .k) (t .has) (z .0) (z .1)
-            go (inr z) = meet (t .v) (t .u) (t .k) (has-flip (t .has)) (z .1) (z .0)
+    find : Keyed (image f) (p .cables) (key u v) → Preimage p f u v k
+    find t = go (key-cases (image f (t .u)) (image f (t .v)) u v (t .is))
+      where
+        go : ((image f (t .u) ≡ u) × (image f (t .v) ≡ v)) ⊎ ((image f (t .u) ≡ v) × (image f (t .v) ≡ u)) → Preimage p f u v k
+        go (inl z) = meet (t .u) (t .v) (t .k) (t .has) (z .0) (z .1)
+        go (inr z) = meet (t .v) (t .u) (t .k) (has-flip (t .has)) (z .1) (z .0)
+
+-- AS MANY DEVICES AND AS MANY CABLES: every device and every cable is met
+pub embedding-full : (p d : Drawing) (f : List ℕ) → Simple p → Simple d → Embedding p d f
+    → devices p ≡ devices d → length (p .cables) ≡ length (d .cables) → Isomorphism p d f
+embedding-full p d f simple target m e q =
+    record { embedding = m; onto = embedding-onto p d f m e; cables-onto = embedding-cables-onto p d f simple target m q }
+
+-- in a connected drawing of two devices or more a cable ends at each, so as many cables are enough
+pub embedding-full-connected : (p d : Drawing) (f : List ℕ) → Simple p → Simple d → Connected d → 2 ≤ devices d → Embedding p d f
+    → length (p .cables) ≡ length (d .cables) → Isomorphism p d f
+embedding-full-connected p d f simple target joined two m q =
+    record { embedding = m; onto = onto; cables-onto = cables-onto }
+  where
+    cables-onto : (u v k : ℕ) → Has u v k (d .cables) → Preimage p f u v k
+    cables-onto = embedding-cables-onto p d f simple target m q
+
+    numbered : (u w k : ℕ) → Preimage p f u w k → Numbered f w
+    numbered u w k s = record { i = s .j; below = rw (m .size) (simple .ends (s .j) (s .i) k (has-flip (s .has))); is = s .to }
+
+    last : (u w : ℕ) → (u ≡ w → ⊥) → Walk (d .cables) u w → Numbered f w
+    last u w n stay = absurd (n refl)
+    last u w n (onward {v = v} {k = k} s h) = numbered v w k (cables-onto v w k h)
+
+    onto : (w : ℕ) → w < devices d → Numbered f w
+    onto w h = go (ℕ-discrete 0 w)
+      where
+        go : Dec (0 ≡ w) → Numbered f w
+        go (yes e) = last 1 w (λ z. omega arith) (joined 1 w (omega arith) h)
+        go (no e) = last 0 w e (joined 0 w (omega arith) h)

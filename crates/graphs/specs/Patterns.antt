@@ -10,7 +10,7 @@ use lib.Dec.{ltb, leb, eqb}
 use borrow.Author.Tests.{ltb-true, leb-true, eqb-true, eqb-false, le-leb, eq-eqb}
 use lib.ListN.{length, getD, take, drop, take-append-drop, length-drop, length-map}
 use lib.Seq.{length-take-le}
-use Rattle.laws.specs.Tests.{and-split, and-both, passes}
+use Rattle.laws.specs.Tests.{and-split, and-both, passes, passes-last}
 use Rattle.laws.specs.Rows.{rows, rows-length}
 use Rattle.graphs.specs.Drawing.{Drawing, devices, cable-in, cables-in, drawing-in, byte-list, is-pattern}
 use Rattle.graphs.specs.Drawing.{cable-refusal, unused-zero, connected, drawing-refusal, accepted}
@@ -98,19 +98,6 @@ pub cables-in-length : (m : ℕ) (bs : List ℕ) → length (cables-in m bs) ≡
 unfolding cables-in
 cables-in-length m bs = length-map (rows 3 m bs) cable-in ∙ rows-length 3 m bs
 
--- a refusal that another test gives
-passes-given : (r x : ℕ) → cond (not (eqb r 0)) r x ≡ 0 → (r ≡ 0) × (x ≡ 0)
-passes-given r x e = go (eqb r 0) refl e
-  where
-    go : (t : Bool) → eqb r 0 ≡ t → cond (not t) r x ≡ 0 → (r ≡ 0) × (x ≡ 0)
-    go true p q = (eqb-true r 0 p, q)
-    go false p q = absurd (eqb-false r 0 p q)
-
--- the last refusal of a chain
-passes-last : (b : Bool) → cond {A = ℕ} b 0 8 ≡ 0 → b ≡ true
-passes-last true e = refl
-passes-last false e = absurd (omega arith)
-
 -- a record is accepted exactly if it has these parts
 pub accepted-parts : (bs : List ℕ) → drawing-refusal bs ≡ 0 → Accepted-parts bs
 unfolding drawing-refusal drawing-in
@@ -118,11 +105,12 @@ accepted-parts bs e =
     let n = getD bs 0 0 in
     let m = getD bs 1 0 in
     let d = drawing-in bs in
-    let whole = passes (eqb (length bs) 72) 1 _ (λ x. omega arith) e in
-    let few = passes (leb 2 n && leb n 10) 2 _ (λ x. omega arith) (whole .1) in
-    let thin = passes (leb 1 m && leb m 20) 3 _ (λ x. omega arith) (few .1) in
-    let good = passes-given (cable-refusal n [] (d .cables)) _ (thin .1) in
-    let rest = passes (unused-zero bs) 7 _ (λ x. omega arith) (good .1) in
+    let whole = passes (eqb (length bs) 72) 1 _ (λ x y. omega arith) e in
+    let few = passes (leb 2 n && leb n 10) 2 _ (λ x y. omega arith) (whole .1) in
+    let thin = passes (leb 1 m && leb m 20) 3 _ (λ x y. omega arith) (few .1) in
+    let r = cable-refusal n [] (d .cables) in
+    let good = passes (eqb r 0) r _ (eqb-false r 0) (thin .1) in
+    let rest = passes (unused-zero bs) 7 _ (λ x y. omega arith) (good .1) in
     let ns = and-split (leb 2 n) (leb n 10) (few .0) in
     let ms = and-split (leb 1 m) (leb m 20) (thin .0) in
     let size : length bs ≡ 72 = eqb-true (length bs) 72 (whole .0) in
@@ -133,9 +121,9 @@ accepted-parts bs e =
       devices-high = high;
       cables-low = leb-true 1 m (ms .0);
       cables-high = leb-true m 20 (ms .1);
-      cables-good = good .0;
+      cables-good = eqb-true r 0 (good .0);
       unused = rest .0;
-      is-connected = passes-last (connected d) (rest .1);
+      is-connected = passes-last (connected d) 8 (λ x. omega arith) (rest .1);
       device-count = length-take-le n (drop 2 bs) (rw length-drop (omega arith));
       cable-count = cables-in-length m (drop 12 bs);
     }

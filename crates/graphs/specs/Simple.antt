@@ -11,14 +11,9 @@ use borrow.Author.Tests.{leb-false, eqb-false, lt-leb, ne-eqb}
 use Rattle.laws.specs.Tests.{or-none, false-unless, true-and-false}
 use Rattle.laws.specs.Lists.{snoc}
 use Rattle.graphs.specs.Drawing.{Cable, Drawing, devices, joined-by, cable-refusal}
-use Rattle.graphs.specs.Cables.{Joins, along, against, Has, has-flip, has-eq, has-first, has-front, has-last, Last, last-cases}
+use Rattle.graphs.specs.Cables.{Joins, along, against, Has, has-flip, has-eq, has-first, has-front, has-last, Last, last-cases, has-between}
 use Rattle.graphs.specs.Cables.{joined-from-test, joined-to-test}
 use Rattle.graphs.specs.Graph.{Distinct, Simple}
-
--- a pair that is joined, as a cable that joins it has its ends
-pub has-as-cable : {u v k : ℕ} {c : Cable} {cs : List Cable} → Joins u v c → Has u v k cs → Has (c .a) (c .b) k cs
-has-as-cable (along p q) h = has-eq (sym p) (sym q) refl h
-has-as-cable (against p q) h = has-eq (sym p) (sym q) refl (has-flip h)
 
 -- NO PAIR TWICE
 -- a pair is joined by one kind
@@ -26,8 +21,8 @@ pub distinct-single : (cs : List Cable) → Distinct cs → (u v k l : ℕ) → 
 unfolding Distinct
 distinct-single [] n u v k l h g = elim h [ ]
 distinct-single (c ∷ cs) n u v k l (Has.here i p) (Has.here j q) = sym p ∙ q
-distinct-single (c ∷ cs) n u v k l (Has.here i p) (Has.there g) = absurd (n .0 l (has-as-cable i g))
-distinct-single (c ∷ cs) n u v k l (Has.there h) (Has.here j q) = absurd (n .0 k (has-as-cable j h))
+distinct-single (c ∷ cs) n u v k l (Has.here i p) (Has.there g) = absurd (n .0 l (has-between i g))
+distinct-single (c ∷ cs) n u v k l (Has.there h) (Has.here j q) = absurd (n .0 k (has-between j h))
 distinct-single (c ∷ cs) n u v k l (Has.there h) (Has.there g) = distinct-single cs (n .1) u v k l h g
 
 -- one more cable, between a pair not joined so far
@@ -38,7 +33,7 @@ distinct-snoc (d ∷ cs) c n new = (λ k h. apart k (last-cases cs h), distinct-
   where
     apart : (k : ℕ) → Has (d .a) (d .b) k cs ⊎ Last (d .a) (d .b) k c → ⊥
     apart k (inl h) = n .0 k h
-    apart k (inr l) = new (d .kind) (has-as-cable (l .joins) (has-first d cs))
+    apart k (inr l) = new (d .kind) (has-between (l .joins) (has-first d cs))
 
 -- ONE CABLE
 -- 4 an end is not below n; 5 both ends are equal; 6 the pair is joined by an earlier cable: none of them
@@ -106,7 +101,7 @@ module _ (n : ℕ) (bs : List Cable) (c : Cable) (cs : List Cable) where
       loopless u k (Has.there h) = s .loopless u k h
 
       apart : (u v k l : ℕ) → Has u v k (c ∷ cs) → Has u v l bs → ⊥
-      apart u v k l (Has.here j e) g = f .unjoined l (has-as-cable j g)
+      apart u v k l (Has.here j e) g = f .unjoined l (has-between j g)
       apart u v k l (Has.there h) g = s .apart u v k l h (has-front (c ∷ []) g)
 
   simple-head : Simple-after n bs (c ∷ cs) → Fresh n bs c
@@ -130,7 +125,7 @@ module _ (n : ℕ) (bs : List Cable) (c : Cable) (cs : List Cable) where
     where
       apart : (u v k l : ℕ) → Has u v k cs → Has u v l bs ⊎ Last u v l c → ⊥
       apart u v k l h (inl g) = s .apart u v k l (Has.there h) g
-      apart u v k l h (inr g) = s .distinct .0 k (has-as-cable (g .joins) h)
+      apart u v k l h (inr g) = s .distinct .0 k (has-between (g .joins) h)
 
 simple-after-from-test : (n : ℕ) (bs cs : List Cable) → cable-refusal n bs cs ≡ 0 → Simple-after n bs cs
 unfolding Distinct

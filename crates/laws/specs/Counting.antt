@@ -18,22 +18,26 @@ Different (x ∷ xs) = (Mem x xs → ⊥) × Different xs
 record Without {A : Type 0} (v : A) (ys : List A) : Type 0 where
   rest : List A
   count : length ys ≡ suc (length rest)
-  others : (w : A) → (w ≡ v → ⊥) → Mem w ys → Mem w rest
+  cases : (w : A) → Mem w ys → (w ≡ v) ⊎ Mem w rest
 
 without : {A : Type 0} {v : A} {ys : List A} → Mem v ys → Without v ys
-without {A} {v} (Mem.here {x = y} {xs = ys} e) = record { rest = ys; count = refl; others = other }
+without {A} {v} (Mem.here {x = y} {xs = ys} e) = record { rest = ys; count = refl; cases = cases }
   where
-    other : (w : A) → (w ≡ v → ⊥) → Mem w (y ∷ ys) → Mem w ys
-    other w n (Mem.here q) = absurd (n (sym q ∙ e))
-    other w n (Mem.there q) = q
+    cases : (w : A) → Mem w (y ∷ ys) → (w ≡ v) ⊎ Mem w ys
+    cases w (Mem.here q) = inl (sym q ∙ e)
+    cases w (Mem.there m) = inr m
 without {A} {v} (Mem.there {x = y} {xs = ys} m) = go (without m)
   where
     go : Without v ys → Without v (y ∷ ys)
-    go s = record { rest = y ∷ s .rest; count = ap suc (s .count); others = other }
+    go s = record { rest = y ∷ s .rest; count = ap suc (s .count); cases = cases }
       where
-        other : (w : A) → (w ≡ v → ⊥) → Mem w (y ∷ ys) → Mem w (y ∷ s .rest)
-        other w n (Mem.here q) = Mem.here q
-        other w n (Mem.there q) = Mem.there (s .others w n q)
+        later : (w : A) → (w ≡ v) ⊎ Mem w (s .rest) → (w ≡ v) ⊎ Mem w (y ∷ s .rest)
+        later w (inl q) = inl q
+        later w (inr h) = inr (Mem.there h)
+
+        cases : (w : A) → Mem w (y ∷ ys) → (w ≡ v) ⊎ Mem w (y ∷ s .rest)
+        cases w (Mem.here q) = inr (Mem.here q)
+        cases w (Mem.there h) = later w (s .cases w h)
 
 -- THE PIGEONHOLE PRINCIPLE
 pub different-fewer : {A : Type 0} (xs ys : List A) → Different xs → ((v : A) → Mem v xs → Mem v ys) → length xs ≤ length ys
@@ -41,8 +45,32 @@ unfolding Different
 different-fewer [] ys n s = omega arith
 different-fewer {A} (x ∷ xs) ys n s = go (without (s x (Mem.here refl))) (λ zs t. different-fewer xs zs (n .1) t)
   where
+    other : (zs : List A) (w : A) → Mem w xs → (w ≡ x) ⊎ Mem w zs → Mem w zs
+    other zs w h (inl q) = absurd (n .0 (mem-eq q h))
+    other zs w h (inr k) = k
+
     go : Without x ys → ((zs : List A) → ((v : A) → Mem v xs → Mem v zs) → length xs ≤ length zs) → suc (length xs) ≤ length ys
-    go w r = omega (arith, w .count, r (w .rest) (λ v m. w .others v (λ e. n .0 (mem-eq e m)) (s v (Mem.there m))))
+    go w r = omega (arith, w .count, r (w .rest) (λ v m. other (w .rest) v m (w .cases v (s v (Mem.there m)))))
+
+-- as many: then they are all its members
+pub different-covers : {A : Type 0} (xs ys : List A) → Different xs → ((v : A) → Mem v xs → Mem v ys) → length xs ≡ length ys
+    → (v : A) → Mem v ys → Mem v xs
+unfolding Different
+different-covers [] [] n s e v m = m
+different-covers [] (y ∷ ys) n s e v m = absurd (omega arith)
+different-covers {A} (x ∷ xs) ys n s e v m = go (without (s x (Mem.here refl))) (λ zs. different-covers xs zs (n .1))
+  where
+    other : (zs : List A) (w : A) → Mem w xs → (w ≡ x) ⊎ Mem w zs → Mem w zs
+    other zs w h (inl q) = absurd (n .0 (mem-eq q h))
+    other zs w h (inr k) = k
+
+    go : Without x ys → ((zs : List A) → ((w : A) → Mem w xs → Mem w zs) → length xs ≡ length zs → (w : A) → Mem w zs → Mem w xs) → Mem v (x ∷ xs)
+    go t ih = end (t .cases v m)
+      where
+        end : (v ≡ x) ⊎ Mem v (t .rest) → Mem v (x ∷ xs)
+        end (inl q) = Mem.here (sym q)
+        end (inr k) =
+            Mem.there (ih (t .rest) (λ w h. other (t .rest) w h (t .cases w (s w (Mem.there h)))) (omega (arith, t .count)) v k)
 
 -- LISTS OF NUMBERS, read at 256 past their end
 abbrev pub at : List ℕ → ℕ → ℕ
@@ -103,29 +131,8 @@ different-below n f d low = omega (arith, below-length n, different-fewer f (bel
 
 -- n different numbers below n are all of them
 pub different-all : (n : ℕ) (f : List ℕ) → Different f → ((v : ℕ) → Mem v f → v < n) → length f ≡ n → (v : ℕ) → v < n → Mem v f
-unfolding Different
-different-all n f d low size v h = go (find f)
-  where
-    find : (xs : List ℕ) → Mem v xs ⊎ (Mem v xs → ⊥)
-    find [] = inr (λ m. elim m [ ])
-    find (x ∷ xs) = cases (ℕ-discrete x v) (find xs)
-      where
-        none : (x ≡ v → ⊥) → (Mem v xs → ⊥) → Mem v (x ∷ xs) → ⊥
-        none n o (Mem.here e) = n e
-        none n o (Mem.there m) = o m
-
-        cases : Dec (x ≡ v) → Mem v xs ⊎ (Mem v xs → ⊥) → Mem v (x ∷ xs) ⊎ (Mem v (x ∷ xs) → ⊥)
-        cases (yes e) r = inl (Mem.here e)
-        cases (no n) (inl m) = inl (Mem.there m)
-        cases (no n) (inr o) = inr (none n o)
-
-    each : (w : ℕ) → Mem w (v ∷ f) → w < n
-    each w (Mem.here q) = omega arith
-    each w (Mem.there m) = low w m
-
-    go : Mem v f ⊎ (Mem v f → ⊥) → Mem v f
-    go (inl m) = m
-    go (inr o) = absurd (omega (arith, different-below n (v ∷ f) (o, d) each))
+different-all n f d low size v h =
+    different-covers f (below n) d (λ w m. below-has n w (low w m)) (size ∙ sym (below-length n)) v (below-has n v h)
 
 -- an injective list with values below n has at most n places
 pub injective-fits : (n : ℕ) (f : List ℕ) → Injective f → ((i : ℕ) → i < length f → at f i < n) → length f ≤ n

@@ -71,7 +71,17 @@ compare-numbers a b = go (test (ltb a b)) (test (ltb b a))
     go (inr p) (inl q) = more q
     go (inr p) (inr q) = same (eq-eqb a b (omega (arith, ltb-false)))
 
+pub same-truth : (a b : Bool) → (a ≡ true → b ≡ true) → (b ≡ true → a ≡ true) → a ≡ b
+same-truth true b to from = sym (to refl)
+same-truth false true to from = from refl
+same-truth false false to from = refl
+
 -- a chain of refusals: the test passed, and what comes after it passed too
-pub passes : (b : Bool) (k x : ℕ) → (k ≡ 0 → ⊥) → cond (not b) k x ≡ 0 → (b ≡ true) × (x ≡ 0)
+pub passes : (b : Bool) (k x : ℕ) → (b ≡ false → k ≡ 0 → ⊥) → cond (not b) k x ≡ 0 → (b ≡ true) × (x ≡ 0)
 passes true k x n e = (refl, e)
-passes false k x n e = absurd (n e)
+passes false k x n e = absurd (n refl e)
+
+-- the last test of a chain
+pub passes-last : (b : Bool) (k : ℕ) → (k ≡ 0 → ⊥) → cond b 0 k ≡ 0 → b ≡ true
+passes-last true k n e = refl
+passes-last false k n e = absurd (n e)

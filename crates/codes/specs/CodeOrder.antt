@@ -3,11 +3,12 @@
 use mathlib.Core.Path.{_≡_, refl, sym, _∙_, subst}
 use mathlib.Core.Bool.{Bool, true, false, _&&_, _||_, cond}
 use mathlib.Core.List.{List, [], _∷_, _++_}
+use mathlib.Core.Logic.{_⊎_, inl, inr}
 use Prim.Native.Nat.{ℕ, _<_, _≤_}
 use native.Mathlib.Omega.{arith}
 use lib.Dec.{ltb, eqb}
 use borrow.Author.Tests.{ltb-false, eqb-true, eq-eqb, lt-ltb, le-ltb}
-use Rattle.laws.specs.Tests.{Three, less, same, more, and-split, or-none, true-and-false}
+use Rattle.laws.specs.Tests.{Three, less, same, more, and-split, or-none, true-and-false, false-unless}
 use Rattle.laws.specs.Orders.{
   Weak-order,
   Strict-order,
@@ -144,6 +145,23 @@ module _ (labels : Rec → Rec → Bool) where
         go (less p) = absurd (true-and-false p f)
         go (same p) = absurd (true-and-false (subst (λ (z : Rec). rec-same b z ≡ true) (sym p) (rec-same-test .at b)) n)
         go (more p) = p
+
+    -- with a later first record a code does not come before
+    pub later-not-before : (b l : Rec) (bs ls : List Rec) → rec-before-by labels b l ≡ true → before-by labels (l ∷ ls) (b ∷ bs) ≡ false
+    later-not-before b l bs ls h =
+        false-unless (before-by labels (l ∷ ls) (b ∷ bs))
+        (λ q. before-strict .irrefl (b ∷ bs) (before-strict .trans (b ∷ bs) (l ∷ ls) (b ∷ bs) (difference-decides [] b l bs ls h) q))
+
+    -- what is before or equal to a code that xs does not come before, xs does not come before either
+    pub not-before-lower :
+        (xs ys zs : List Rec) → before-by labels xs ys ≡ false → (zs ≡ ys) ⊎ (before-by labels zs ys ≡ true) → before-by labels xs zs ≡ false
+    not-before-lower xs ys zs h (inl e) = rw e h
+    not-before-lower xs ys zs h (inr e) = false-unless (before-by labels xs zs) (λ q. true-and-false (before-strict .trans xs zs ys q e) h)
+
+  -- behind an equal first record the rest decides
+  pub same-first : (e : Rec) (xs ys : List Rec) → before-by labels (e ∷ xs) (e ∷ ys) ≡ before-by labels xs ys
+  unfolding before-by
+  same-first e xs ys = rw (rec-same-test .at e)
 
   -- what the order says of positions alone
   pub backward-before-forward : (e l : Rec) → e .j < e .i → l .i < l .j → rec-before-by labels e l ≡ true

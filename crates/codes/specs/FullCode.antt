@@ -13,8 +13,8 @@ use Rattle.graphs.specs.Map.{same-by}
 use Rattle.graphs.specs.Embedding.{Embedding, Isomorphism}
 use Rattle.graphs.specs.Embeddings.{identity}
 use Rattle.graphs.specs.Isomorphisms.{isomorphism-from-test, isomorphism-to-test, isomorphism-identity}
-use Rattle.graphs.specs.CountingCables.{isomorphism-cables, embedding-full}
-use Rattle.graphs.specs.Graph.{Simple}
+use Rattle.graphs.specs.CountingCables.{isomorphism-cables, embedding-full-connected}
+use Rattle.graphs.specs.Graph.{Simple, Pattern}
 use Rattle.codes.specs.Code.{Rec, Reading, fresh, rows-refusal, read-rows, drawn, decoded, Code-of, before-by, Least-by}
 use Rattle.codes.specs.CodeOrder.{Label-order, before-strict}
 use Rattle.codes.specs.Rows.{rows-invariant, decoded-cables, Good, good-from-test, good-to-test}
@@ -73,18 +73,6 @@ module _ (d : Drawing) (s : Simple d) where
         describes = isomorphism-to-test (decoded rs) d (c .numbering) (coded-simple d rs c .ends) (c .isomorphism);
       }
 
-  -- rows that fit, with all devices and as many records as cables, are a code
-  pub fits-coded : (r : Rec) (rs : List Rec) (t : Fits d (r ∷ rs)) → devices (decoded (r ∷ rs)) ≡ devices d → length (r ∷ rs) ≡ length (d .cables) → Coded d (r ∷ rs)
-  unfolding decoded
-  fits-coded r rs t n m =
-      record {
-        one = omega arith;
-        accepted = t .accepted;
-        numbering = t .numbering;
-        isomorphism =
-            embedding-full (decoded (r ∷ rs)) d (t .numbering) (decoded-simple r rs (t .accepted)) s (t .embedding) n (decoded-cables (r ∷ rs) ∙ m);
-      }
-
   module _ (labels : Rec → Rec → Bool) (o : Label-order labels) (most : length (d .cables) ≤ 20) where
     -- A GREEDY CODE IS LEAST
     pub greedy-least : (rs : List Rec) → Greedy labels d [] rs → Coded d rs → Least-by labels d rs
@@ -95,6 +83,19 @@ module _ (d : Drawing) (s : Simple d) where
               let t = coded-from-test ss k in
               greedy-before labels o d [] rs ss g (coded-fits t) (coded-length ss t ∙ sym (coded-length rs c));
         }
+
+-- ROWS THAT FIT with as many records as a pattern has cables are a code of it
+pub fits-coded : (d : Drawing) → Pattern d → (r : Rec) (rs : List Rec) → Fits d (r ∷ rs) → length (r ∷ rs) ≡ length (d .cables) → Coded d (r ∷ rs)
+unfolding decoded
+fits-coded d p r rs t m =
+    record {
+      one = omega arith;
+      accepted = t .accepted;
+      numbering = t .numbering;
+      isomorphism =
+          embedding-full-connected (decoded (r ∷ rs)) d (t .numbering) (decoded-simple r rs (t .accepted)) (p .simple) (p .connected) (p .devices-low)
+          (t .embedding) (decoded-cables (r ∷ rs) ∙ m);
+    }
 
 -- AT MOST ONE CODE IS LEAST, of two drawings that have each other's
 pub least-same :

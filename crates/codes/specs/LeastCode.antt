@@ -18,9 +18,10 @@ use Rattle.codes.specs.Code.{Rec, Reading, fresh, cable-of, begun, rows-
 use Rattle.codes.specs.CodeOrder.{Label-order}
 use Rattle.codes.specs.Reading.{Invariant}
 use Rattle.codes.specs.Rows.{stepped-is, begun-is, begun-to-test, rows-one, read-snoc, rows-invariant, decoded-cables, good-from-test}
-use Rattle.codes.specs.Extension.{Extension, Local, seen-extension}
+use Rattle.codes.specs.Extension.{Extension, Local, local-extension}
 use Rattle.codes.specs.Tight.{Tight, All-tight, tight-begun, tight-step, Some-local, progress}
 use Rattle.codes.specs.Greedy.{Fits, fits-one, fits-extension, extension-fits, fits-prefix, fits-through, Greedy, greedy-snoc, greedy-prefix, greedy-within}
+use Rattle.codes.specs.FirstRecord.{first-record, first-fits, some-cable}
 use Rattle.codes.specs.LeastExtension.{Least-extension, least-extension}
 use Rattle.codes.specs.FullCode.{
   Coded,
@@ -32,59 +33,6 @@ use Rattle.codes.specs.FullCode.{
   greedy-least,
   least-unique,
 }
-
--- ANY CABLE BEGINS A CODE
-pub first-record : (d : Drawing) (u w k : ℕ) → Rec
-first-record d u w k = record { i = 0; j = 1; ki = kind d u; c = k; kj = kind d w }
-
-pub first-fits : (d : Drawing) → Simple d → (u w k : ℕ) → Has u w k (d .cables) → Fits d (first-record d u w k ∷ [])
-unfolding read-rows cable-of first-record
-first-fits d s u w k h =
-    record {
-      accepted = let g = begun-to-test e refl refl in rows-one fresh e (g .0) (g .1);
-      numbering = f;
-      embedding = subst (λ (y : Reading). Embedding (drawn y) d f) (sym (begun-is e)) embedding;
-    }
-  where
-    e : Rec
-    e = first-record d u w k
-
-    f : List ℕ
-    f = u ∷ w ∷ []
-
-    ends-differ : u ≡ w → ⊥
-    ends-differ z = s .loopless u k (has-eq refl (sym z) refl h)
-
-    injective : (i j : ℕ) → i < 2 → j < 2 → image (u ∷ w ∷ []) i ≡ image (u ∷ w ∷ []) j → i ≡ j
-    injective zero zero a b z = refl
-    injective zero (suc zero) a b z = absurd (ends-differ z)
-    injective zero (suc (suc j)) a b z = absurd (omega arith)
-    injective (suc zero) zero a b z = absurd (ends-differ (sym z))
-    injective (suc zero) (suc zero) a b z = refl
-    injective (suc zero) (suc (suc j)) a b z = absurd (omega arith)
-    injective (suc (suc i)) j a b z = absurd (omega arith)
-
-    lands : (i : ℕ) → i < 2 → image (u ∷ w ∷ []) i < devices d
-    lands zero a = s .ends u w k h
-    lands (suc zero) a = s .ends w u k (has-flip h)
-    lands (suc (suc i)) a = absurd (omega arith)
-
-    kinds : (i : ℕ) → i < 2 → kind d (image (u ∷ w ∷ []) i) ≡ getD (kind d u ∷ kind d w ∷ []) i 256
-    kinds zero a = refl
-    kinds (suc zero) a = refl
-    kinds (suc (suc i)) a = absurd (omega arith)
-
-    cables : (a b l : ℕ) → Has a b l (cable-of (first-record d u w k) ∷ []) → Has (image (u ∷ w ∷ []) a) (image (u ∷ w ∷ []) b) l (d .cables)
-    cables a b l (Has.here (along y z) q) = has-eq (ap (image (u ∷ w ∷ [])) y) (ap (image (u ∷ w ∷ [])) z) q h
-    cables a b l (Has.here (against y z) q) = has-flip (has-eq (ap (image (u ∷ w ∷ [])) y) (ap (image (u ∷ w ∷ [])) z) q h)
-    cables a b l (Has.there g) = elim g [ ]
-
-    embedding : Embedding (drawn (begun e)) d f
-    embedding = record { size = refl; injective = injective; lands = lands; kinds = kinds; cables = cables }
-
-some-cable : (cs : List Cable) → 1 ≤ length cs → (u : ℕ) × (w : ℕ) × (k : ℕ) × Has u w k cs
-some-cable [] h = absurd (omega arith)
-some-cable (c ∷ cs) h = (c .a, c .b, c .kind, has-first c cs)
 
 module _ (labels : Rec → Rec → Bool) (o : Label-order labels) (d : Drawing) (p : Pattern d) where
   -- WHAT A SEARCH KEEPS: rows that fit, each the least that goes on, and every numbering tight
@@ -141,8 +89,7 @@ module _ (labels : Rec → Rec → Bool) (o : Label-order labels) (d : Drawing) 
 
       more : (e : Rec) → Local d x f e → Fits d (snoc (r ∷ rs) e)
       more e h =
-          extension-fits d r rs e ok
-          (seen-extension d (p .devices-high) (p .simple .ends) x v e (record { numbering = f; embedding = s .fits .embedding; local = h }))
+          extension-fits d r rs e ok (local-extension d (p .devices-high) (p .simple .ends) x v f (s .fits .embedding) e h)
 
       go : Some-local d x f ⊎ Isomorphism (drawn x) d f → ((e : Rec) × Fits d (snoc (r ∷ rs) e)) ⊎ Coded d (r ∷ rs)
       go (inl e) = inl (e .0, more (e .0) (e .1))

@@ -6,6 +6,7 @@ pub mod Rows
 pub mod Extension
 pub mod Tight
 pub mod Greedy
+pub mod FirstRecord
 pub mod LeastExtension
 pub mod FullCode
 pub mod LeastCode
@@ -14,3 +15,6 @@ pub mod CodeBytes
 pub mod CodesTell
 pub mod Promise
 pub mod Proved
+pub mod Branch
+pub mod Better
+pub mod Runs

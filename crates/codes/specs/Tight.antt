@@ -22,7 +22,7 @@ use Rattle.codes.specs.Code.{Rec, Reading, end, cut-to, cable-of, begun,
 use Rattle.codes.specs.CodeOrder.{backward-before-forward, backward-not-before, forward-not-before}
 use Rattle.codes.specs.Step.{Backward, Step, steps-back, steps-forward, after, cut-keeps, cut-second}
 use Rattle.codes.specs.Reading.{Invariant}
-use Rattle.codes.specs.Extension.{Extension, Local, chord-at, edge-at, unbackward, unforward, edge-record, chord-record, seen-extension}
+use Rattle.codes.specs.Extension.{Extension, Local, chord-at, edge-at, unbackward, unforward, edge-record, chord-record, local-extension}
 
 -- HOW A CABLE between u and v stands in a state, seen from u: listed; an edge from the path to a device without a number;
 -- a chord that is still permitted; or apart from all that was read
@@ -78,7 +78,7 @@ tight-begun d s e p q f m u w k h = go (decide-numbered f u) (decide-numbered f 
 
 -- A STEP KEEPS A NUMBERING TIGHT if no record that is local to it comes before the step's
 module _ (labels : Rec → Rec → Bool) (d : Drawing) (p : Pattern d) (x : Reading) (v : Invariant x) (f : List ℕ) (m : Embedding (drawn x) d f)
-         (tight : Tight d x f) (e : Rec) (least : (l : Rec) → Local d x f l → rec-before-by labels l e ≡ false) where
+    (tight : Tight d x f) (e : Rec) (least : (l : Rec) → Local d x f l → rec-before-by labels l e ≡ false) where
   -- backward: the least j first, so the other chords keep a greater j
   module _ (o : Backward x (e .i) (e .j)) where
     not-lower : (i j k : ℕ) → Backward x i j → Has (image f i) (image f j) k (d .cables) → e .j ≤ j
@@ -191,7 +191,7 @@ pub tight-step :
 tight-step labels d p x v tight e least s = go s
   where
     locally : (f : List ℕ) → Embedding (drawn x) d f → (l : Rec) → Local d x f l → rec-before-by labels l e ≡ false
-    locally f m l h = least l (seen-extension d (p .devices-high) (p .simple .ends) x v l (record { numbering = f; embedding = m; local = h }))
+    locally f m l h = least l (local-extension d (p .devices-high) (p .simple .ends) x v f m l h)
 
     go : (s : Step x e) → All-tight d (after s)
     go (steps-back o y z) g m =

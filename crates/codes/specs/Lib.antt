@@ -18,3 +18,4 @@ pub mod Proved
 pub mod Branch
 pub mod Better
 pub mod Runs
+pub mod BranchState

@@ -1,0 +1,12 @@
+pub mod Refusals
+pub mod Drawings
+pub mod Cables
+pub mod Reached
+pub mod Surveys
+pub mod Codes
+pub mod RowWalk
+pub mod ByteLaws
+pub mod CableLaws
+pub mod DrawingLaws
+pub mod ReachedLaws
+pub mod SurveyLaws

@@ -19,3 +19,5 @@ pub mod Branch
 pub mod Better
 pub mod Runs
 pub mod BranchState
+pub mod Searched
+pub mod Started

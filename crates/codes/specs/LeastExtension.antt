@@ -24,7 +24,7 @@ use Rattle.codes.specs.Rows.{rows-split, rows-invariant}
 use Rattle.codes.specs.Extension.{Extension}
 use Rattle.codes.specs.Greedy.{Fits, fits-nil, fits-one, fits-extension, None-before}
 
--- CANDIDATES: a record for each cable, each way round, and each two numbers below 10
+-- CANDIDATES for a next record: one for each cable, each way round, and each two numbers below 10
 unfoldable each-of : {A : Type 0} → List A → (A → List Rec) → List Rec
 each-of ys g = concat (map g ys)
 
@@ -37,7 +37,7 @@ both-ways d c i j =
     record { i = i; j = j; ki = kind d (c .a); c = c .kind; kj = kind d (c .b) }
     ∷ record { i = i; j = j; ki = kind d (c .b); c = c .kind; kj = kind d (c .a) } ∷ []
 
-unfoldable candidates : Drawing → List Rec
+pub candidates : Drawing → List Rec
 candidates d = each-of (d .cables) λ c. each-of (below 10) λ i. each-of (below 10) λ j. both-ways d c i j
 
 record Standing-cable (u w k : ℕ) (cs : List Cable) : Type 0 where
@@ -98,7 +98,7 @@ extension-candidate d x v e t = go (t .step) (t .embedding)
         size : length g ≡ length (x .kinds) + 1
         size = m .size ∙ length-append (x .kinds) (e .kj ∷ [])
 
-fits-candidate : (d : Drawing) (rs : List Rec) (e : Rec) → Fits d (snoc rs e) → Mem e (candidates d)
+pub fits-candidate : (d : Drawing) (rs : List Rec) (e : Rec) → Fits d (snoc rs e) → Mem e (candidates d)
 unfolding cable-of
 fits-candidate d [] e t =
     let g = fits-one d e t in

@@ -21,3 +21,9 @@ pub mod Runs
 pub mod BranchState
 pub mod Searched
 pub mod Started
+pub mod Descending
+pub mod LabelLaws
+pub mod BranchBounds
+pub mod BranchLaws
+pub mod BranchLeast
+pub mod BranchSteps

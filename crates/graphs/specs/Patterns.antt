@@ -7,7 +7,7 @@ use Prim.Native.Nat.{ℕ, zero, suc, _≤_, _<_}
 use native.Mathlib.Nat.{not-suc-le-zero, le-of-suc-le-suc}
 use native.Mathlib.Omega.{arith}
 use lib.Dec.{ltb, leb, eqb}
-use borrow.Author.Tests.{ltb-true, leb-true, eqb-true, eqb-false, le-leb, eq-eqb}
+use borrow.Author.Tests.{ltb-true, leb-true, eqb-true, eqb-false, lt-ltb, le-leb, eq-eqb}
 use lib.ListN.{length, getD, take, drop, take-append-drop, length-drop, length-map}
 use lib.Seq.{length-take-le}
 use Rattle.laws.specs.Tests.{and-split, and-both, passes, passes-last}
@@ -43,6 +43,11 @@ unfolding byte-list
 byte-list-at [] i d p h = absurd (not-suc-le-zero h)
 byte-list-at (x ∷ xs) zero d p h = ltb-true x 256 (and-split (ltb x 256) (byte-list xs) p .0)
 byte-list-at (x ∷ xs) (suc i) d p h = byte-list-at xs i d (and-split (ltb x 256) (byte-list xs) p .1) (le-of-suc-le-suc h)
+
+pub byte-list-from : (xs : List ℕ) → ((i : ℕ) → i < length xs → getD xs i 256 < 256) → byte-list xs ≡ true
+unfolding byte-list
+byte-list-from [] h = refl
+byte-list-from (x ∷ xs) h = and-both (lt-ltb x 256 (h 0 (omega arith))) (byte-list-from xs (λ i l. h (suc i) (omega arith)))
 
 -- A PATTERN: an accepted drawing, whatever its device numbers and the order of its cables
 pub pattern-from-test : (p : Drawing) → is-pattern p ≡ true → Pattern p

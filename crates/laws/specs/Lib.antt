@@ -4,3 +4,4 @@ pub mod Counting
 pub mod Orders
 pub mod Rows
 pub mod Minimum
+pub mod Rising

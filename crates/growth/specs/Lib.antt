@@ -1,0 +1,4 @@
+pub mod Catalogue
+pub mod Growth
+pub mod Frequent
+pub mod Catalogues

@@ -2,3 +2,4 @@ pub mod Catalogue
 pub mod Growth
 pub mod Frequent
 pub mod Catalogues
+pub mod Marks

@@ -2,13 +2,14 @@
 -- drawing contains another. Assumes nothing.
 use mathlib.Core.Path.{_≡_, refl, sym, ap, _∙_}
 use mathlib.Core.Bool.{Bool}
-use mathlib.Core.List.{List, [], _∷_, _++_, map}
+use mathlib.Core.List.{List, [], _∷_, _++_}
 use mathlib.Core.Logic.{_⊎_, inl, inr}
 use Prim.Native.Nat.{ℕ, _+_, _<_}
 use native.Mathlib.Omega.{arith}
 use native.Mathlib.Decide.{ℕ-discrete}
 use lib.ListN.{length, getD, length-append}
-use Rattle.laws.specs.Lists.{Mem, snoc, concat, mem-concat, mem-map, snoc-old, snoc-new, snoc-length}
+use Rattle.laws.specs.Lists.{Mem, snoc, snoc-old, snoc-new, snoc-length}
+use Rattle.laws.specs.Selections.{each, each-has}
 use Rattle.laws.specs.Counting.{below, below-has}
 use Rattle.laws.specs.Minimum.{Minimum, minimum}
 use Rattle.graphs.specs.Drawing.{Cable, Drawing, kind}
@@ -25,20 +26,13 @@ use Rattle.codes.specs.Extension.{Extension}
 use Rattle.codes.specs.Greedy.{Fits, fits-nil, fits-one, fits-extension, None-before}
 
 -- CANDIDATES for a next record: one for each cable, each way round, and each two numbers below 10
-unfoldable each-of : {A : Type 0} → List A → (A → List Rec) → List Rec
-each-of ys g = concat (map g ys)
-
-each-has : {A : Type 0} (ys : List A) (g : A → List Rec) {a : A} {r : Rec} → Mem a ys → Mem r (g a) → Mem r (each-of ys g)
-unfolding each-of
-each-has ys g m h = mem-concat (map g ys) (mem-map g m) h
-
 unfoldable both-ways : Drawing → Cable → (i j : ℕ) → List Rec
 both-ways d c i j =
     record { i = i; j = j; ki = kind d (c .a); c = c .kind; kj = kind d (c .b) }
     ∷ record { i = i; j = j; ki = kind d (c .b); c = c .kind; kj = kind d (c .a) } ∷ []
 
 pub candidates : Drawing → List Rec
-candidates d = each-of (d .cables) λ c. each-of (below 10) λ i. each-of (below 10) λ j. both-ways d c i j
+candidates d = each (d .cables) λ c. each (below 10) λ i. each (below 10) λ j. both-ways d c i j
 
 record Standing-cable (u w k : ℕ) (cs : List Cable) : Type 0 where
   c : Cable

@@ -27,3 +27,6 @@ pub mod BranchBounds
 pub mod BranchLaws
 pub mod BranchLeast
 pub mod BranchSteps
+pub mod LeastSearch
+pub mod LeastSearchLocals
+pub mod LeastSearchLaws

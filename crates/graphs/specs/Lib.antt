@@ -12,5 +12,6 @@ pub mod Embeddings
 pub mod Isomorphisms
 pub mod CountingCables
 pub mod PartialMaps
+pub mod FirstMap
 pub mod LeastMap
 pub mod Containment

@@ -5,3 +5,4 @@ pub mod Orders
 pub mod Rows
 pub mod Minimum
 pub mod Rising
+pub mod Selections

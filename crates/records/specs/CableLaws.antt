@@ -8,15 +8,15 @@ use native.Mathlib.Omega.{arith}
 use native.Mathlib.Numerals.{add-one}
 use native.Mathlib.Nat.{add-zero, not-suc-le-zero, le-of-suc-le-suc}
 use borrow.Author.Tests.{eq-eqb, ne-eqb, le-leb, lt-leb, leb-false}
-use lib.Dec.{leb, eqb, lit<}
+use lib.Dec.{leb, eqb}
 use lib.ListN.{length, getD, drop, length-map, List·getD-eq-default, List·getD-map}
 use lib.Seq.{getD-drop}
 use Rattle.laws.specs.Lists.{snoc, map-append}
 use Rattle.laws.specs.Rows.{row, rows, rows-length, rows-at, rows-snoc, row-at}
 use Rattle.records.specs.RowWalk.{left-start, left-next, left-end}
 use Rattle.graphs.specs.Drawing.{Cable, cable-in, cables-in, joins, joined-by, cable-refusal}
-use Rattle.records.specs.Refusals.{first-of, first-some, first-none, first-test}
-use Rattle.records.specs.Cables.{cable-of, cables-before, cables-from, cable-fault}
+use Rattle.records.specs.RefusalLaws.{first-of, first-some, first-none, first-test}
+use Rattle.records.specs.Cables.{cable-of, cables-before, cables-from, cable-fault, fault-at}
 
 -- byte i of cable c
 cable-byte : (bs : List ℕ) (c i : ℕ) → i < 3 → getD (row 3 c (drop 12 bs)) i 0 ≡ getD bs (12 + 3 * c + i) 0
@@ -34,7 +34,10 @@ cable-read bs c =
 -- past the end of the bytes
 pub cable-past : (bs : List ℕ) (c : ℕ) → length bs / 3 ≤ c → record { a = 0; b = 0; kind = 0 } ≡ cable-of bs c
 cable-past bs c h =
-    rw (gone (12 + 3 * c) (omega arith), gone (12 + 3 * c + 1) (omega arith), gone (12 + 3 * c + 2) (omega arith)) at (cable-read bs c)
+    let first : getD bs (12 + 3 * c) 0 ≡ 0 = gone (12 + 3 * c) (omega arith) in
+    let second : getD bs (12 + 3 * c + 1) 0 ≡ 0 = gone (12 + 3 * c + 1) (omega arith) in
+    let third : getD bs (12 + 3 * c + 2) 0 ≡ 0 = gone (12 + 3 * c + 2) (omega arith) in
+    rw (first, second, third) at (cable-read bs c)
   where
     gone : (k : ℕ) → length bs ≤ k → getD bs k 0 ≡ 0
     gone k l = List·getD-eq-default bs 0 l
@@ -73,7 +76,8 @@ module _ (u v m k : ℕ) (bs : List ℕ) where
   unfolding joined-by
   joined-here h e = rw (from-next m bs k h) (simp e)
 
-  pub joined-later : k < m → joins u v (cable-of bs k) ≡ false → joined-by u v (cables-from m k bs) ≡ joined-by u v (cables-from m (k + 1) bs)
+  pub joined-later : k < m → joins u v (cable-of bs k) ≡ false
+      → joined-by u v (cables-from m k bs) ≡ joined-by u v (cables-from m (k + 1) bs)
   unfolding joined-by
   joined-later h e = rw (from-next m bs k h) (simp e)
 
@@ -105,13 +109,10 @@ module _ (n : ℕ) (es : List Cable) (c : Cable) where
     fault-none d e = simp (lt-leb _ _ p, lt-leb _ _ q, ne-eqb _ _ d, e)
 
 -- CABLE BY CABLE
-cable-by-cable : (n : ℕ) (es cs : List Cable) (c : Cable) → cable-refusal n es (c ∷ cs) ≡ first-of (cable-fault n es c) (cable-refusal n (snoc es c) cs)
+cable-by-cable : (n : ℕ) (es cs : List Cable) (c : Cable)
+    → cable-refusal n es (c ∷ cs) ≡ first-of (cable-fault n es c) (cable-refusal n (snoc es c) cs)
 unfolding cable-refusal cable-fault
-cable-by-cable n es cs c =
-    let four : 0 < 4 = lit< tt in
-    let five : 0 < 5 = lit< tt in
-    let six : 0 < 6 = lit< tt in
-    rw (← first-test, ← first-test, ← first-test, first-none 0)
+cable-by-cable n es cs c = rw (← first-test, ← first-test, ← first-test, first-none 0)
 
 module _ (n m c : ℕ) (bs : List ℕ) where
   -- what the cables from c on give, after those before c
@@ -122,11 +123,12 @@ module _ (n m c : ℕ) (bs : List ℕ) where
   unfolding cables-in rows
   refusal-start e = rw (e, from-start m bs)
 
-  pub refusal-here : c < m → 0 < cable-fault n (cables-before c bs) (cable-of bs c) → refusal-from ≡ cable-fault n (cables-before c bs) (cable-of bs c)
+  pub refusal-here : c < m → 0 < fault-at n c bs → refusal-from ≡ fault-at n c bs
   refusal-here h g =
       rw (from-next m bs c h, cable-by-cable) (first-some _ _ g)
 
-  pub refusal-later : c < m → cable-fault n (cables-before c bs) (cable-of bs c) ≡ 0 → refusal-from ≡ cable-refusal n (cables-before (c + 1) bs) (cables-from m (c + 1) bs)
+  pub refusal-later : c < m → fault-at n c bs ≡ 0
+      → refusal-from ≡ cable-refusal n (cables-before (c + 1) bs) (cables-from m (c + 1) bs)
   refusal-later h e = rw (from-next m bs c h, cable-by-cable, before-next c bs) (first-none _ _ e)
 
   pub refusal-none : m ≤ c → refusal-from ≡ 0
@@ -135,18 +137,22 @@ module _ (n m c : ℕ) (bs : List ℕ) where
 
 -- A CABLE OF A SOUND LIST has its ends below n
 module _ (n : ℕ) where
-  sound-split : (es cs : List Cable) (c : Cable) → cable-refusal n es (c ∷ cs) ≡ 0 → (c .a < n) × (c .b < n) × (cable-refusal n (snoc es c) cs ≡ 0)
+  sound-split : (es cs : List Cable) (c : Cable) → cable-refusal n es (c ∷ cs) ≡ 0
+      → (c .a < n) × (c .b < n) × (cable-refusal n (snoc es c) cs ≡ 0)
   unfolding cable-refusal
-  sound-split es cs c e = go (leb n (c .a)) (leb n (c .b)) (eqb (c .a) (c .b)) (joined-by (c .a) (c .b) es) (cable-refusal n (snoc es c) cs) refl refl e
+  sound-split es cs c e =
+      go (leb n (c .a)) (leb n (c .b)) (eqb (c .a) (c .b)) (joined-by (c .a) (c .b) es) (cable-refusal n (snoc es c) cs) refl refl e
     where
-      go : (p q r s : Bool) (x : ℕ) → leb n (c .a) ≡ p → leb n (c .b) ≡ q → cond (p || q) 4 (cond r 5 (cond s 6 x)) ≡ 0 → (c .a < n) × (c .b < n) × (x ≡ 0)
+      go : (p q r s : Bool) (x : ℕ) → leb n (c .a) ≡ p → leb n (c .b) ≡ q
+          → cond (p || q) 4 (cond r 5 (cond s 6 x)) ≡ 0 → (c .a < n) × (c .b < n) × (x ≡ 0)
       go true q r s x f g h = absurd (omega arith)
       go false true r s x f g h = absurd (omega arith)
       go false false true s x f g h = absurd (omega arith)
       go false false false true x f g h = absurd (omega arith)
       go false false false false x f g h = (leb-false n (c .a) f, leb-false n (c .b) g, h)
 
-  sound-at : (es cs : List Cable) (z : Cable) → cable-refusal n es cs ≡ 0 → (k : ℕ) → k < length cs → (getD cs k z .a < n) × (getD cs k z .b < n)
+  sound-at : (es cs : List Cable) (z : Cable) → cable-refusal n es cs ≡ 0
+      → (k : ℕ) → k < length cs → (getD cs k z .a < n) × (getD cs k z .b < n)
   sound-at es [] z e k h = absurd (not-suc-le-zero h)
   sound-at es (c ∷ cs) z e zero h = let s = sound-split es cs c e in (s .0, s .1)
   sound-at es (c ∷ cs) z e (suc k) h = sound-at (snoc es c) cs z (sound-split es cs c e .2) k (le-of-suc-le-suc h)

@@ -29,3 +29,7 @@ cables-from m c bs = map cable-in (rows-left 3 m (drop 12 bs) c)
 unfoldable pub cable-fault : (n : ℕ) → (earlier : List Cable) → Cable → ℕ
 cable-fault n es c =
     cond (leb n (c .a) || leb n (c .b)) 4 (cond (eqb (c .a) (c .b)) 5 (cond (joined-by (c .a) (c .b) es) 6 0))
+
+-- cable c of a record after those before it
+abbrev pub fault-at : (n c : ℕ) → List ℕ → ℕ
+fault-at n c bs = cable-fault n (cables-before c bs) (cable-of bs c)

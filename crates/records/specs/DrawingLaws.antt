@@ -5,14 +5,14 @@ use mathlib.Core.List.{List, []}
 use Prim.Native.Nat.{ℕ, _+_, _*_, _-_, _≤_, _<_}
 use native.Mathlib.Omega.{arith}
 use borrow.Author.Tests.{eq-eqb, ne-eqb, le-leb, lt-leb, leb-true}
-use lib.Dec.{leb, lit<}
+use lib.Dec.{leb}
 use lib.ListN.{length, getD, take, drop, length-drop}
 use lib.Seq.{take-all, length-take-le}
 use Rattle.laws.specs.Tests.{and-split, passes}
 use Rattle.graphs.specs.Drawing.{devices, drawing-in, cable-refusal, all-zero, unused-zero, connected, drawing-refusal}
 use Rattle.records.specs.declared.drawing.Drawing.{Drawing}
 use Rattle.records.specs.Drawings.{counts-in, counts-refusal, rest-refusal, Counted}
-use Rattle.records.specs.Refusals.{first-of, first-some, first-none, first-not, first-test}
+use Rattle.records.specs.RefusalLaws.{first-of, first-some, first-none, first-not, first-test}
 use Rattle.records.specs.Cables.{cables-before}
 
 -- COUNTS within the limits, or not
@@ -32,14 +32,17 @@ module _ (d : Drawing) where
 
     pub cables-too-many : 20 < d .cables → counts-refusal d ≡ 3
     unfolding counts-refusal
-    cables-too-many h = let g : 1 ≤ d .cables = omega arith in simp (le-leb _ _ low, le-leb _ _ high, le-leb _ _ g, lt-leb _ _ h)
+    cables-too-many h =
+        let g : 1 ≤ d .cables = omega arith in
+        simp (le-leb _ _ low, le-leb _ _ high, le-leb _ _ g, lt-leb _ _ h)
 
     pub counts-fine : 1 ≤ d .cables → d .cables ≤ 20 → counts-refusal d ≡ 0
     unfolding counts-refusal
     counts-fine h g = simp (le-leb _ _ low, le-leb _ _ high, le-leb _ _ h, le-leb _ _ g)
 
   -- what counts that are not refused are known by
-  fine-tests : counts-refusal d ≡ 0 → ((leb 2 (d .devices) && leb (d .devices) 10) ≡ true) × ((leb 1 (d .cables) && leb (d .cables) 20) ≡ true)
+  fine-tests : counts-refusal d ≡ 0
+      → ((leb 2 (d .devices) && leb (d .devices) 10) ≡ true) × ((leb 1 (d .cables) && leb (d .cables) 20) ≡ true)
   unfolding counts-refusal
   fine-tests e =
       let n = passes (leb 2 (d .devices) && leb (d .devices) 10) 2 _ (λ q. omega arith) e in
@@ -72,7 +75,8 @@ module _ (bs : List ℕ) (d : Drawing) (known : Counted bs d) where
   unfolding unused-zero
   unused-parts =
       let e : 10 - d .devices ≡ 12 - (2 + d .devices) = omega arith in
-      rw (devices-is, cables-is, e, take-all (length bs - (12 + 3 * d .cables)) (drop (12 + 3 * d .cables) bs) (rw length-drop (omega arith)))
+      let k : ℕ = 12 + 3 * d .cables in
+      rw (devices-is, cables-is, e, take-all (length bs - k) (drop k bs) (rw length-drop (omega arith)))
 
   pub unused-kinds : all-zero kinds-unused ≡ false → unused-zero bs ≡ false
   unused-kinds e = unused-parts ∙ simp e
@@ -83,7 +87,9 @@ module _ (bs : List ℕ) (d : Drawing) (known : Counted bs d) where
   -- THE DRAWING that the record gives
   pub drawing-devices : devices (drawing-in bs) ≡ d .devices
   unfolding drawing-in
-  drawing-devices = ap (λ (n : ℕ). length (take n (drop 2 bs))) devices-is ∙ length-take-le (d .devices) (drop 2 bs) (rw length-drop (omega (arith, known .whole, known .devices-most)))
+  drawing-devices =
+      ap (λ (n : ℕ). length (take n (drop 2 bs))) devices-is
+      ∙ length-take-le (d .devices) (drop 2 bs) (rw length-drop (omega (arith, known .whole, known .devices-most)))
 
   pub drawing-cables : drawing-in bs .cables ≡ cables-before (d .cables) bs
   unfolding drawing-in
@@ -116,8 +122,6 @@ module _ (bs : List ℕ) (d : Drawing) (whole : length bs ≡ 72) (is : d ≡ co
   place-by-place : drawing-refusal bs ≡ first-of (counts-refusal d) (first-of of-cables (rest-refusal bs))
   unfolding drawing-refusal counts-refusal rest-refusal drawing-in
   place-by-place =
-      let two : 0 < 2 = lit< tt in
-      let three : 0 < 3 = lit< tt in
       rw is (simp (eq-eqb _ _ whole) (rw (first-not, ← first-test, ← first-test, first-none 0)))
 
   pub counts-refused : 0 < counts-refusal d → drawing-refusal bs ≡ counts-refusal d

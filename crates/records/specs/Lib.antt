@@ -5,6 +5,7 @@ pub mod Reached
 pub mod Surveys
 pub mod Codes
 pub mod RowWalk
+pub mod RefusalLaws
 pub mod ByteLaws
 pub mod CableLaws
 pub mod DrawingLaws

@@ -44,14 +44,20 @@ marks-more r vs v h m =
 module _ (q : Reached) (c : held.Cable) (first : c .a < 10) (second : c .b < 10) where
   pub ends-kept : (t : Bool) → getD (q .marks) (c .a) false ≡ t → getD (q .marks) (c .b) false ≡ t → Marks-ends q c q
   unfolding with-ends
-  ends-kept t p r = record { step = λ vs m. go vs m t (sym (m .says (c .a) first) ∙ p) (sym (m .says (c .b) second) ∙ r); most = omega arith }
+  ends-kept t p r =
+      record {
+        step = λ vs m. go vs m t (sym (m .says (c .a) first) ∙ p) (sym (m .says (c .b) second) ∙ r);
+        most = omega arith;
+      }
     where
-      go : (vs : List ℕ) → Marks q vs → (t : Bool) → member (c .a) vs ≡ t → member (c .b) vs ≡ t → Marks q (with-ends (as-cable c) vs)
+      go : (vs : List ℕ) → Marks q vs → (t : Bool) → member (c .a) vs ≡ t → member (c .b) vs ≡ t
+          → Marks q (with-ends (as-cable c) vs)
       go vs m true f g = simp (f, g) m
       go vs m false f g = simp (f, g) m
 
   module _ (r : Reached) where
-    pub ends-second : getD (q .marks) (c .a) false ≡ true → getD (q .marks) (c .b) false ≡ false → Marks-one-more q (c .b) r → Marks-ends q c r
+    pub ends-second : getD (q .marks) (c .a) false ≡ true → getD (q .marks) (c .b) false ≡ false
+        → Marks-one-more q (c .b) r → Marks-ends q c r
     unfolding with-ends
     ends-second f g n =
         record {
@@ -59,7 +65,8 @@ module _ (q : Reached) (c : held.Cable) (first : c .a < 10) (second : c .b < 10)
           most = n .most;
         }
 
-    pub ends-first : getD (q .marks) (c .a) false ≡ false → getD (q .marks) (c .b) false ≡ true → Marks-one-more q (c .a) r → Marks-ends q c r
+    pub ends-first : getD (q .marks) (c .a) false ≡ false → getD (q .marks) (c .b) false ≡ true
+        → Marks-one-more q (c .a) r → Marks-ends q c r
     unfolding with-ends
     ends-first f g n =
         record {
@@ -105,7 +112,8 @@ module _ (bs : List ℕ) (d : Drawing) where
   pub rounds-next : (k : ℕ) (q r : Reached) → Marks q (after k) → Marks-spread (d .cables) bs q r → Marks r (after (k + 1))
   rounds-next k q r m s = rw (reached-next k (cables-before (d .cables) bs) (0 ∷ [])) (s .step (after k) m)
 
-  pub rounds-end : Counted bs d → (r : Reached) → Marks r (after (d .devices)) → eqb (r .count) (d .devices) ≡ connected (drawing-in bs)
+  pub rounds-end : Counted bs d → (r : Reached) → Marks r (after (d .devices))
+      → eqb (r .count) (d .devices) ≡ connected (drawing-in bs)
   unfolding connected
   rounds-end h r m = rw (drawing-devices bs d h, drawing-cables bs d h, m .size)
 

@@ -57,13 +57,15 @@ module _ (bs : List ℕ) where
   unfolding records-in drawings-from
   drawings-start = ap (drawings-refusal 0) (left-start 72 (drawings-in bs) bs)
 
-  pub drawing-refused : (d : ℕ) → d < drawings-in bs → 0 < drawing-refusal (row 72 d bs) → drawings-from bs d ≡ refusal (drawing-refusal (row 72 d bs)) d
+  pub drawing-refused : (d : ℕ) → d < drawings-in bs → 0 < drawing-refusal (row 72 d bs)
+      → drawings-from bs d ≡ refusal (drawing-refusal (row 72 d bs)) d
   unfolding drawings-from drawings-refusal
   drawing-refused d h g =
       let n : drawing-refusal (row 72 d bs) ≡ 0 → ⊥ = λ e. omega arith in
       rw (left-next 72 (drawings-in bs) bs d h) (simp (ne-eqb _ _ n))
 
-  pub drawing-passed : (d : ℕ) → d < drawings-in bs → drawing-refusal (row 72 d bs) ≡ 0 → drawings-from bs d ≡ drawings-from bs (d + 1)
+  pub drawing-passed : (d : ℕ) → d < drawings-in bs → drawing-refusal (row 72 d bs) ≡ 0
+      → drawings-from bs d ≡ drawings-from bs (d + 1)
   unfolding drawings-from drawings-refusal
   drawing-passed d h e = rw (left-next 72 (drawings-in bs) bs d h) (simp (eq-eqb _ _ e) (rw add-one))
 

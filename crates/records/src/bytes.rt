@@ -4,7 +4,7 @@ ghost use lib.ListN.{getD};
 ghost use Rattle.graphs.specs.Drawing.{all-zero};
 
 // A byte of a record that may be too short to have it.
-pub fn byte_or_zero(bytes: &[u8], at: usize) -> usize
+pub(crate) fn byte_or_zero(bytes: &[u8], at: usize) -> usize
     ensures { λ r. ⌜ r ≡ getD (now (bytes .entry)) at 0 ⌝ }
 {
     if at < bytes.len() {
@@ -15,7 +15,7 @@ pub fn byte_or_zero(bytes: &[u8], at: usize) -> usize
 }
 
 // Whether every byte is zero, as those that a record leaves unused must be.
-pub fn all_zero(bytes: &[u8]) -> bool
+pub(crate) fn all_zero(bytes: &[u8]) -> bool
     ensures { λ r. ⌜ r ≡ all-zero (now (bytes .entry)) ⌝ }
 {
     for i in 0..bytes.len() {

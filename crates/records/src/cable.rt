@@ -7,7 +7,7 @@ ghost use mathlib.Core.Path.{_≡_};
 ghost use mathlib.Core.List.{[]};
 ghost use Rattle.graphs.specs.Drawing.{joins, joined-by, cable-refusal};
 ghost use Rattle.records.specs.Refusals.{checked-number};
-ghost use Rattle.records.specs.Cables.{as-cable, cable-of, cables-before, cable-fault};
+ghost use Rattle.records.specs.Cables.{as-cable, cable-of, cables-before, fault-at};
 
 // One end, the other end, and the kind of the cable between them.
 pub struct Cable {
@@ -61,7 +61,7 @@ fn joined_before(drawing: &[u8], c: usize, u: usize, v: usize) -> bool
 
 // The first reason to refuse cable c of a record of n devices.
 fn check_cable(drawing: &[u8], n: usize, c: usize) -> Checked
-    ensures { λ r. ⌜ checked-number r ≡ cable-fault n (cables-before c (now (drawing .entry))) (cable-of (now (drawing .entry)) c) ⌝ }
+    ensures { λ r. ⌜ checked-number r ≡ fault-at n c (now (drawing .entry)) ⌝ }
 {
     let cable = Cable::at(drawing, c);
     let a = cable.a;

@@ -5,7 +5,7 @@ use mathlib.Core.List.{[]}
 use native.Mathlib.Omega.{arith}
 use borrow.Author.Needs.{needs}
 use Rattle.graphs.specs.Drawing.{cable-refusal}
-use Rattle.records.specs.Refusals.{refused-number, refused-positive, accepted-zero}
+use Rattle.records.specs.RefusalLaws.{refused-number, refused-positive, accepted-zero}
 use Rattle.records.specs.Cables.{cables-before}
 use Rattle.records.specs.CableLaws.{refusal-from, refusal-start, refusal-here, refusal-later, refusal-none}
 use Rattle.records.proofs.cable.check_cables.Statement.{statement}
@@ -60,15 +60,5 @@ returns-2 c =
 pub check-cables-spec : {M : Type 1} → statement M
 check-cables-spec =
     tie.close
-    (tie.spec
-    Inv-loop
-    μ-loop
-    loop-holds
-    check-cable-requires
-    enum-known-r
-    returns
-    enum-told
-    add-c
-    loop-less
-    loop-again
-    returns-2)
+    (tie.spec Inv-loop μ-loop loop-holds check-cable-requires enum-known-r returns enum-told add-c loop-less
+    loop-again returns-2)

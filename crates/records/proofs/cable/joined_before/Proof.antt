@@ -48,14 +48,4 @@ returns-2 c = sym (c .before .loop .inv .1 ∙ joined-none _ _ _ _ _ (omega arit
 pub joined-before-spec : {M : Type 1} → statement M
 joined-before-spec =
     tie.close
-    (tie.spec
-    Inv-loop
-    μ-loop
-    loop-holds
-    at-requires
-    joins-requires
-    returns
-    add-k
-    loop-less
-    loop-again
-    returns-2)
+    (tie.spec Inv-loop μ-loop loop-holds at-requires joins-requires returns add-k loop-less loop-again returns-2)

@@ -54,17 +54,5 @@ returns-2 c =
 pub unused-zero-spec : {M : Type 1} → statement M
 unused-zero-spec =
     tie.close
-    (tie.spec
-    add-kinds-end
-    mul-cables-end
-    add-cables-end
-    sub-all-zero
-    part-all-zero-start
-    part-all-zero-end
-    all-zero-requires
-    sub-all-zero-2
-    part-all-zero-start-2
-    part-all-zero-end-2
-    all-zero-requires-2
-    returns
-    returns-2)
+    (tie.spec add-kinds-end mul-cables-end add-cables-end sub-all-zero part-all-zero-start part-all-zero-end
+    all-zero-requires sub-all-zero-2 part-all-zero-start-2 part-all-zero-end-2 all-zero-requires-2 returns returns-2)

@@ -1,6 +1,6 @@
 -- `reached::connected` meets its contract. The invariant: the marks are of what the rounds so far reach, and few.
 -- Assumes nothing.
-use Prim.Native.Nat.{_≤_, _-_, _+_, _*_}
+use Prim.Native.Nat.{_≤_, _<_, _-_, _+_, _*_, _^_}
 use mathlib.Core.Path.{_≡_}
 use native.Mathlib.Omega.{arith}
 use borrow.Author.Needs.{needs}
@@ -22,12 +22,14 @@ start-requires c κs = search needs
 loop-holds : tie.Need-loop-holds Inv-loop μ-loop
 loop-holds c =
     let a = c .before .before .args in
-    (search needs, rounds-start (a .drawing .now) (a .counts) (c .start .result) (c .start .ensures), omega (arith, c .start .ensures .size))
+    let m = c .start .ensures in
+    (search needs, rounds-start (a .drawing .now) (a .counts) (c .start .result) m, omega (arith, m .size))
 
 spread-requires : tie.Need-spread-requires Inv-loop μ-loop
 spread-requires c κs =
     let s = c .before .before .before .before in
-    (sound-low (s .args .drawing .now) (s .args .counts) (s .pre), omega (arith, c .before .loop .inv .2, s .pre .counted .devices-most))
+    let few : c .before .loop .reached .count < 2 ^ 31 = omega (arith, c .before .loop .inv .2, s .pre .counted .devices-most) in
+    (sound-low (s .args .drawing .now) (s .args .counts) (s .pre), few)
 
 add-round : tie.Need-add-round Inv-loop μ-loop
 add-round c = search needs

@@ -41,7 +41,11 @@ loop-again : tie.Need-loop-again Inv-loop μ-loop
 loop-again c =
     let l = c .before .before .before .loop in
     let a = c .before .before .before .before .before .args in
-    (search needs, round-next (a .drawing .now) (a .reached) (l .c) (l .reached) (c .with-ends .result) (c .before .at .result) (l .inv .1) (c .with-ends .ensures) (c .before .at .ensures))
+    let k = c .before .at in
+    let w = c .with-ends in (
+      search needs,
+      round-next (a .drawing .now) (a .reached) (l .c) (l .reached) (w .result) (k .result) (l .inv .1) (w .ensures) (k .ensures),
+    )
 
 returns : tie.Need-returns Inv-loop μ-loop
 returns c =
@@ -51,13 +55,4 @@ returns c =
 pub spread-spec : {M : Type 1} → statement M
 spread-spec =
     tie.close
-    (tie.spec
-    Inv-loop
-    μ-loop
-    loop-holds
-    at-requires
-    with-ends-requires
-    add-c
-    loop-less
-    loop-again
-    returns)
+    (tie.spec Inv-loop μ-loop loop-holds at-requires with-ends-requires add-c loop-less loop-again returns)

@@ -6,7 +6,7 @@ use native.Mathlib.Omega.{arith}
 use borrow.Author.Needs.{needs}
 use Rattle.graphs.specs.Drawing.{drawing-refusal}
 use Rattle.graphs.specs.Survey.{refusal, records-in, drawings-refusal}
-use Rattle.records.specs.Refusals.{refused-number, refused-positive, accepted-zero}
+use Rattle.records.specs.RefusalLaws.{refused-number, refused-positive, accepted-zero}
 use Rattle.records.specs.Surveys.{drawings-in}
 use Rattle.records.specs.SurveyLaws.{drawings-from, drawing-part, drawings-start, drawing-refused, drawing-passed, drawings-end, answer-refused, answer-accepted}
 use Rattle.records.proofs.survey.check_drawings.Statement.{statement}
@@ -54,7 +54,8 @@ returns c =
     let e = c .before .before .before .check-drawing .ensures ∙ ap drawing-refusal (drawing-part bs (l .d)) in
     let h : l .d < drawings-in bs = omega (arith, l .inv .0, c .before .before .before .before .before .loop-test .taken) in
     answer-refused _ bs (r .0 .0) (l .d)
-    (ap (λ (n : ℕ). refusal n (l .d)) (refused-number e (r .1)) ∙ sym (l .inv .1 ∙ drawing-refused bs (l .d) h (refused-positive e (r .1))))
+    (ap (λ (n : ℕ). refusal n (l .d)) (refused-number e (r .1))
+    ∙ sym (l .inv .1 ∙ drawing-refused bs (l .d) h (refused-positive e (r .1))))
 
 enum-told : tie.Need-enum-told Inv-loop μ-loop
 enum-told c = search needs
@@ -69,9 +70,9 @@ loop-again : tie.Need-loop-again Inv-loop μ-loop
 loop-again c =
     let bs = c .before .before .before .before .before .before .before .before .args .survey .now in
     let l = c .before .before .before .before .before .loop in
-    let e = accepted-zero (c .before .before .check-drawing .ensures ∙ ap drawing-refusal (drawing-part bs (l .d))) (c .enum-told .given .1) in
+    let e = c .before .before .check-drawing .ensures ∙ ap drawing-refusal (drawing-part bs (l .d)) in
     let h : l .d < drawings-in bs = omega (arith, l .inv .0, c .before .before .before .before .loop-test .taken) in
-    (l .inv .0, l .inv .1 ∙ drawing-passed bs (l .d) h e)
+    (l .inv .0, l .inv .1 ∙ drawing-passed bs (l .d) h (accepted-zero e (c .enum-told .given .1)))
 
 returns-2 : tie.Need-returns-2 Inv-loop μ-loop
 returns-2 c =
@@ -83,21 +84,5 @@ returns-2 c =
 pub check-drawings-spec : {M : Type 1} → statement M
 check-drawings-spec =
     tie.close
-    (tie.spec
-    Inv-loop
-    μ-loop
-    counted-requires
-    loop-holds
-    mul-at
-    add-end
-    sub-check-drawing
-    part-check-drawing-start
-    part-check-drawing-end
-    check-drawing-requires
-    enum-known-r
-    returns
-    enum-told
-    add-d
-    loop-less
-    loop-again
-    returns-2)
+    (tie.spec Inv-loop μ-loop counted-requires loop-holds mul-at add-end sub-check-drawing part-check-drawing-start
+    part-check-drawing-end check-drawing-requires enum-known-r returns enum-told add-d loop-less loop-again returns-2)

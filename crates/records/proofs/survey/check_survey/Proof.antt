@@ -3,7 +3,7 @@ use Prim.Native.Nat.{ℕ}
 use mathlib.Core.Path.{sym, _∙_, ap}
 use borrow.Author.Needs.{needs}
 use Rattle.graphs.specs.Survey.{refusal}
-use Rattle.records.specs.Refusals.{refused-number, refused-positive, accepted-zero}
+use Rattle.records.specs.RefusalLaws.{refused-number, refused-positive, accepted-zero}
 use Rattle.records.specs.SurveyLaws.{length-passed, length-refused, answer-refused}
 use Rattle.records.proofs.survey.check_survey.Statement.{statement}
 use Rattle.records.proofs.survey.check_survey.Tie as tie

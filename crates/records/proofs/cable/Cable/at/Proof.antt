@@ -35,13 +35,5 @@ returns-2 c =
 pub at-spec : {M : Type 1} → statement M
 at-spec =
     tie.close
-    (tie.spec
-    returns
-    mul-at
-    add-at
-    byte-or-zero-requires
-    add-byte-or-zero
-    byte-or-zero-requires-2
-    add-byte-or-zero-2
-    byte-or-zero-requires-3
-    returns-2)
+    (tie.spec returns mul-at add-at byte-or-zero-requires add-byte-or-zero byte-or-zero-requires-2 add-byte-or-zero-2
+    byte-or-zero-requires-3 returns-2)

@@ -1,6 +1,6 @@
 -- `cable::Cable::joins` meets its contract: along, or else against. Assumes nothing.
 use mathlib.Core.Path.{_≡_}
-use mathlib.Core.Bool.{false, _&&_}
+use mathlib.Core.Bool.{Bool, false, _&&_}
 use mathlib.Core.Logic.{⊎-elim}
 use borrow.Author.Tests.{eq-eqb, ne-eqb}
 use lib.Dec.{eqb}
@@ -12,7 +12,10 @@ returns : tie.Need-returns
 unfolding joins
 returns c = simp (eq-eqb _ _ (c .before .before .if1 .taken), c .if2 .taken)
 
-not-along : (c : tie.Joined1) → (eqb (c .before .before .args .self .a) (c .before .before .args .u) && eqb (c .before .before .args .self .b) (c .before .before .args .v)) ≡ false
+abbrev along : tie.Start → Bool
+along s = eqb (s .args .self .a) (s .args .u) && eqb (s .args .self .b) (s .args .v)
+
+not-along : (c : tie.Joined1) → along (c .before .before) ≡ false
 not-along c = ⊎-elim (λ w. simp (eq-eqb _ _ (w .0 .taken), w .2 .left)) (λ w. simp (ne-eqb _ _ (w .left))) (c .if1 .came)
 
 returns-2 : tie.Need-returns-2

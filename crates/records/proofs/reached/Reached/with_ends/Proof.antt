@@ -45,13 +45,5 @@ returns-4 c =
 pub with-ends-spec : {M : Type 1} → statement M
 with-ends-spec =
     tie.close
-    (tie.spec
-    element-copy-out-if1
-    element-copy-out-if2
-    returns
-    with-device-requires
-    returns-2
-    element-copy-out-if3
-    with-device-requires-2
-    returns-3
-    returns-4)
+    (tie.spec element-copy-out-if1 element-copy-out-if2 returns with-device-requires returns-2 element-copy-out-if3
+    with-device-requires-2 returns-3 returns-4)

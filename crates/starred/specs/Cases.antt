@@ -1,0 +1,93 @@
+-- What the paper says of its starred drawings, D1 to D10: the kinds of case, what each means, how each is computed, and
+-- the table. Assumes nothing: these are definitions.
+use mathlib.Core.Path.{_≡_}
+use mathlib.Core.Bool.{Bool, true, false, _&&_, not}
+use mathlib.Core.List.{List, [], _∷_, map}
+use mathlib.Core.Option.{Option, none, some}
+use Prim.Native.Nat.{ℕ}
+use lib.Dec.{eqb}
+use lib.ListN.{replicate}
+use Rattle.graphs.specs.Drawing.{Cable, Drawing, drawing-in, drawing-bytes, accepted}
+use Rattle.graphs.specs.Map.{same-by, least-map}
+use Rattle.codes.specs.Code.{Rec, kinds-before, rows-good, rec-bytes, code-refusal, decoded, Code-of, Least}
+use Rattle.codes.specs.LeastSearch.{is-least-code}
+
+pub data Case : Type 0 where
+  -- the drawing is accepted, and this is its least code
+  coded : (drawing : List ℕ) (code : List Rec) → Case
+  -- the drawing is accepted, and this is a DFS code of it, not its least
+  other-code : (drawing : List ℕ) (code : List Rec) → Case
+  -- the code's bytes are refused with this number
+  refused-code : (code : List ℕ) (number : ℕ) → Case
+
+-- WHAT A CASE MEANS
+unfoldable pub Holds : Case → Type 0
+Holds (coded bs rs) = (accepted bs ≡ true) × Least (drawing-in bs) rs
+Holds (other-code bs rs) = (accepted bs ≡ true) × Code-of (drawing-in bs) rs × (Least (drawing-in bs) rs → ⊥)
+Holds (refused-code bs n) = code-refusal bs ≡ n
+
+-- HOW IT IS COMPUTED: a code by the least map of what it describes, the least code by search
+unfoldable pub same-by-found : Drawing → Drawing → Option (List ℕ) → Bool
+same-by-found d e none = false
+same-by-found d e (some f) = same-by d e f
+
+unfoldable pub is-code-of : Drawing → List Rec → Bool
+is-code-of d rs = rows-good rs && same-by-found (decoded rs) d (least-map (decoded rs) d)
+
+unfoldable pub meets : Case → Bool
+meets (coded bs rs) = accepted bs && is-least-code kinds-before (drawing-in bs) rs
+meets (other-code bs rs) = accepted bs && (is-code-of (drawing-in bs) rs && not (is-least-code kinds-before (drawing-in bs) rs))
+meets (refused-code bs n) = eqb (code-refusal bs) n
+
+unfoldable pub all-meet : List Case → Bool
+all-meet [] = true
+all-meet (c ∷ cs) = meets c && all-meet cs
+
+-- DRAWINGS AND CODES as the paper writes them: the bytes of a drawing from the kinds of its devices and its cables
+abbrev pub cable : (a b kind : ℕ) → Cable
+cable a b k = record { a = a; b = b; kind = k }
+
+abbrev pub tuple : (i j ki c kj : ℕ) → Rec
+tuple i j ki c kj = record { i = i; j = j; ki = ki; c = c; kj = kj }
+
+unfoldable pub drawing-of : (kinds : List ℕ) → List Cable → List ℕ
+drawing-of ks cs = drawing-bytes (record { kinds = ks; cables = cs })
+
+-- D3 to D10 have kind 1 and cable 5 throughout: pairs alone tell them
+abbrev pub Pairs : Type 0
+Pairs = List (ℕ × ℕ)
+
+unfoldable pub plain-drawing : (devices : ℕ) → Pairs → List ℕ
+plain-drawing n ps = drawing-of (replicate n 1) (map (λ p. cable (p .0) (p .1) 5) ps)
+
+unfoldable pub plain-code : Pairs → List Rec
+plain-code ps = map (λ p. tuple (p .0) (p .1) 1 5 1) ps
+
+-- the pairs are the drawing's cables and its least code alike
+unfoldable pub alike : (devices : ℕ) → Pairs → Case
+alike n ps = coded (plain-drawing n ps) (plain-code ps)
+
+-- THE TABLE
+unfoldable pub table : List Case
+table =
+    -- D1 kinds 2, 1, cable 7
+    coded (drawing-of (2 ∷ 1 ∷ []) (cable 0 1 7 ∷ [])) (tuple 0 1 1 7 2 ∷ [])
+    -- D2 centre kind 1, cable 9 to kind 2, cable 4 to kind 3
+    ∷ coded (drawing-of (1 ∷ 2 ∷ 3 ∷ []) (cable 0 1 9 ∷ cable 0 2 4 ∷ [])) (tuple 0 1 1 4 3 ∷ tuple 0 2 1 9 2 ∷ [])
+    -- D3 path of 3
+    ∷ alike 3 ((0, 1) ∷ (1, 2) ∷ [])
+    -- D4 triangle
+    ∷ alike 3 ((0, 1) ∷ (1, 2) ∷ (2, 0) ∷ [])
+    -- D5 triangle with a tail
+    ∷ alike 4 ((0, 1) ∷ (1, 2) ∷ (2, 0) ∷ (2, 3) ∷ [])
+    -- D6 ring of 4
+    ∷ alike 4 ((0, 1) ∷ (1, 2) ∷ (2, 3) ∷ (3, 0) ∷ [])
+    -- D7 star of 3
+    ∷ alike 4 ((0, 1) ∷ (1, 2) ∷ (1, 3) ∷ [])
+    -- D8 a DFS code of D3, not its least
+    ∷ other-code (plain-drawing 3 ((0, 1) ∷ (1, 2) ∷ [])) (plain-code ((0, 1) ∷ (0, 2) ∷ []))
+    -- D9 refusal 10
+    ∷ refused-code (rec-bytes (plain-code ((0, 1) ∷ (1, 2) ∷ (0, 3) ∷ (1, 4) ∷ []))) 10
+    -- D10 refusal 10
+    ∷ refused-code (rec-bytes (plain-code ((0, 1) ∷ (1, 0) ∷ []))) 10
+    ∷ []

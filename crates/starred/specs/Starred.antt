@@ -1,0 +1,158 @@
+-- The starred drawings are as the paper says: one statement over the table, computed by the checker, and its meaning.
+-- Rests on the laws of the search for the least code. Assumes nothing.
+use mathlib.Core.Path.{_≡_, refl, subst}
+use mathlib.Core.Bool.{true, _&&_, not, false≢true}
+use mathlib.Core.List.{List, [], _∷_}
+use mathlib.Core.Option.{Option, none, some}
+use Prim.Native.Nat.{ℕ}
+use borrow.Author.Tests.{eqb-true, not-true}
+use Rattle.laws.specs.Tests.{and-split, true-and-false}
+use Rattle.laws.specs.Lists.{Mem, concat}
+use Rattle.laws.specs.Rows.{rows}
+use Rattle.laws.specs.Selections.{each, only-if, least-of}
+use Rattle.graphs.specs.Drawing.{
+  Drawing,
+  cable-in,
+  cables-in,
+  drawing-in,
+  cable-bytes,
+  drawing-bytes,
+  joins,
+  joined-by,
+  cable-refusal,
+  all-zero,
+  unused-zero,
+  member,
+  with-ends,
+  spread,
+  reached,
+  connected,
+  drawing-refusal,
+  byte-list,
+  accepted,
+}
+use Rattle.graphs.specs.Map.{
+  has-cable,
+  all-different,
+  kinds-kept,
+  cables-land,
+  maps-into,
+  inverse-at,
+  inverse-from,
+  same-by,
+  fits-so-far,
+  or-map,
+  try-each,
+  when,
+  step-fits,
+  search-from,
+  least-map,
+}
+use Rattle.graphs.specs.Patterns.{accepted-pattern}
+use Rattle.codes.specs.Code.{
+  Rec,
+  rec-in,
+  recs-in,
+  rec-bytes,
+  fresh,
+  forward,
+  end,
+  second,
+  backward-good,
+  forward-good,
+  step-good,
+  kinds-match,
+  cut-to,
+  cable-of,
+  stepped,
+  rows-refusal,
+  read-rows,
+  rows-good,
+  code-refusal,
+  decoded,
+  Code-of,
+  kinds-before,
+  rec-before-by,
+  rec-same,
+}
+use Rattle.codes.specs.CodeOrder.{kinds-order}
+use Rattle.codes.specs.Extension.{edge-record, chord-record}
+use Rattle.codes.specs.FirstRecord.{first-record}
+use Rattle.codes.specs.LeastSearch.{
+  ways,
+  first-choice,
+  firsts,
+  edge-choice,
+  chord-choice,
+  locals,
+  after-record,
+  least-record,
+  search-rows,
+  least-code,
+  rows-same,
+  is-least-code,
+}
+use Rattle.codes.specs.LeastSearchLaws.{least-from-test, least-to-test}
+use Rattle.starred.specs.Cases.{
+  Case,
+  coded,
+  other-code,
+  refused-code,
+  Holds,
+  same-by-found,
+  is-code-of,
+  meets,
+  all-meet,
+  drawing-of,
+  plain-drawing,
+  plain-code,
+  alike,
+  table,
+}
+
+-- THE STARRED DRAWINGS, computed
+pub starred : all-meet table ≡ true
+unfolding table alike plain-code plain-drawing drawing-of all-meet meets is-code-of same-by-found
+    is-least-code rows-same least-code search-rows least-record after-record locals chord-choice edge-choice firsts first-choice ways
+    first-record edge-record chord-record least-of only-if each concat rows
+    code-refusal recs-in rec-in rec-bytes rows-good rows-refusal kinds-match step-good forward-good backward-good second end forward
+    stepped cut-to cable-of read-rows fresh decoded rec-same rec-before-by kinds-before
+    least-map search-from step-fits when try-each or-map fits-so-far same-by inverse-from inverse-at maps-into cables-land kinds-kept
+    all-different has-cable accepted byte-list drawing-refusal connected reached spread with-ends member unused-zero all-zero
+    cable-refusal joined-by joins drawing-bytes cable-bytes drawing-in cables-in cable-in
+starred = refl
+
+-- WHAT IS COMPUTED IS SO
+code-from-test : (d : Drawing) (rs : List Rec) → is-code-of d rs ≡ true → Code-of d rs
+unfolding is-code-of same-by-found
+code-from-test d rs e =
+    let s = and-split (rows-good rs) (same-by-found (decoded rs) d (least-map (decoded rs) d)) e in
+    go (s .0) (least-map (decoded rs) d) (s .1)
+  where
+    go : rows-good rs ≡ true → (f : Option (List ℕ)) → same-by-found (decoded rs) d f ≡ true → Code-of d rs
+    go g none h = absurd (false≢true h)
+    go g (some f) h = record { good = g; numbers = f; describes = h }
+
+pub meets-holds : (c : Case) → meets c ≡ true → Holds c
+unfolding meets Holds
+meets-holds (coded bs rs) h =
+    let s = and-split (accepted bs) (is-least-code kinds-before (drawing-in bs) rs) h in
+    (s .0, least-from-test kinds-before kinds-order (drawing-in bs) (accepted-pattern bs (s .0)) rs (s .1))
+meets-holds (other-code bs rs) h =
+    let d = drawing-in bs in
+    let s = and-split (accepted bs) (is-code-of d rs && not (is-least-code kinds-before d rs)) h in
+    let t = and-split (is-code-of d rs) (not (is-least-code kinds-before d rs)) (s .1) in
+    let other = not-true (is-least-code kinds-before d rs) (t .1) in
+    let to-test = least-to-test kinds-before kinds-order d (accepted-pattern bs (s .0)) rs in
+    (s .0, code-from-test d rs (t .0), λ l. true-and-false (to-test l) other)
+meets-holds (refused-code bs n) h = eqb-true (code-refusal bs) n h
+
+all-hold : (cs : List Case) → all-meet cs ≡ true → (c : Case) → Mem c cs → Holds c
+unfolding all-meet
+all-hold [] h c m = elim m [ ]
+all-hold (b ∷ cs) h c (Mem.here e) = subst Holds e (meets-holds b (and-split (meets b) (all-meet cs) h .0))
+all-hold (b ∷ cs) h c (Mem.there m) = all-hold cs (and-split (meets b) (all-meet cs) h .1) c m
+
+-- EVERY CASE OF THE TABLE HOLDS
+pub starred-holds : (c : Case) → Mem c table → Holds c
+starred-holds = all-hold table starred

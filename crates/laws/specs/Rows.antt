@@ -3,7 +3,8 @@
 use mathlib.Core.Path.{_≡_, refl, sym, ap, ap₂, _∙_}
 use mathlib.Core.List.{List, [], _∷_, _++_, append-assoc, append-nil}
 use Prim.Native.Nat.{ℕ, zero, suc, _+_, _*_, _-_, _/_, _%_, _≤_, _<_}
-use native.Mathlib.Nat.{not-suc-le-zero, le-of-suc-le-suc, div-add-mod', mul-comm, mul-zero, mul-suc, zero-add, suc-add, add-comm, eq-of-mul-eq-mul-left}
+use native.Mathlib.Nat.{not-suc-le-zero, le-of-suc-le-suc, div-add-mod', mul-comm, mul-zero, mul-suc, zero-add, suc-add, add-comm, eq-of-mul-eq-mul-left, sub-zero}
+use native.Mathlib.Numerals.{add-one}
 use native.Mathlib.Omega.{arith}
 use lib.ListN.{length, getD, take, drop, length-append, length-take, length-drop}
 use lib.Seq.{take-append-seam, drop-append-seam, take-append-le, drop-append-le, drop-drop, take-add, getD-take, getD-drop, length-take-le, take-at, drop-at}
@@ -126,3 +127,20 @@ module _ {A : Type 0} where
   -- A LIST OF WHOLE RECORDS
   pub whole-records : (w : ℕ) (xs : List A) → length xs % w ≡ 0 → w * (length xs / w) ≡ length xs
   whole-records w xs e = omega (arith, div-add-mod' (length xs) w, mul-comm w (length xs / w))
+
+-- A WALK over n records of w elements: those that are left from record k on
+module _ {A : Type 0} (w n : ℕ) (xs : List A) where
+  unfoldable pub rows-left : (k : ℕ) → List (List A)
+  rows-left k = rows w (n - k) (drop (w * k) xs)
+
+  pub left-start : rows w n xs ≡ rows-left 0
+  unfolding rows-left
+  left-start = rw (mul-zero, sub-zero)
+
+  pub left-next : (k : ℕ) → k < n → rows-left k ≡ row w k xs ∷ rows-left (k + 1)
+  unfolding rows-left
+  left-next k h = let e : n - k ≡ suc (n - (k + 1)) = omega arith in rw (e, rows-from w (n - (k + 1)) k xs, add-one)
+
+  pub left-end : (k : ℕ) → n ≤ k → rows-left k ≡ []
+  unfolding rows-left rows
+  left-end k h = let e : n - k ≡ 0 = omega arith in rw e

@@ -13,7 +13,7 @@ use lib.ListN.{length, getD, drop, length-map, List·getD-eq-default, List·getD
 use lib.Seq.{getD-drop}
 use Rattle.laws.specs.Lists.{snoc, map-append}
 use Rattle.laws.specs.Rows.{row, rows, rows-length, rows-at, rows-snoc, row-at}
-use Rattle.records.specs.RowWalk.{left-start, left-next, left-end}
+use Rattle.laws.specs.Rows.{left-start, left-next, left-end}
 use Rattle.graphs.specs.Drawing.{Cable, cable-in, cables-in, joins, joined-by, cable-refusal}
 use Rattle.records.specs.RefusalLaws.{first-of, first-some, first-none, first-test}
 use Rattle.records.specs.Cables.{cable-of, cables-before, cables-from, cable-fault, fault-at}

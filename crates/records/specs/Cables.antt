@@ -6,7 +6,7 @@ use lib.Dec.{leb, eqb}
 use lib.ListN.{drop}
 use Rattle.laws.specs.Rows.{row}
 use Rattle.graphs.specs.Drawing.{Cable, cable-in, cables-in, joined-by}
-use Rattle.records.specs.RowWalk.{rows-left}
+use Rattle.laws.specs.Rows.{rows-left}
 use Rattle.records.specs.declared.cable.Cable as held
 
 -- a cable that the program holds

@@ -4,7 +4,6 @@ pub mod Cables
 pub mod Reached
 pub mod Surveys
 pub mod Codes
-pub mod RowWalk
 pub mod RefusalLaws
 pub mod ByteLaws
 pub mod CableLaws

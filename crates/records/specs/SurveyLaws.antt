@@ -13,7 +13,7 @@ use Rattle.records.specs.declared.refusal.Refusal as held-refusal
 use Rattle.records.specs.declared.survey.SurveyChecked.the-variants.{Accepted, Refused}
 use Rattle.records.specs.Refusals.{number-of}
 use Rattle.records.specs.Surveys.{Survey-answer, drawings-in}
-use Rattle.records.specs.RowWalk.{rows-left, left-start, left-next, left-end}
+use Rattle.laws.specs.Rows.{rows-left, left-start, left-next, left-end}
 
 -- THE LENGTH
 module _ (bs : List ℕ) where

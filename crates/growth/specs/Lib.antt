@@ -3,3 +3,4 @@ pub mod Growth
 pub mod Frequent
 pub mod Catalogues
 pub mod Marks
+pub mod Places

@@ -52,7 +52,8 @@ second [] = 10
 second (r ∷ []) = 10
 second (r ∷ s ∷ rs) = s
 
--- backward, (r, j): j below r on the rightmost path, not the device from which r was reached, and above the j of the record before if that one was backward
+-- backward, (r, j): j below r on the rightmost path, not the device from which r was reached, and above the j of the
+-- record before if that one was backward
 unfoldable pub backward-good : Reading → Rec → Bool
 backward-good x r =
     (eqb (r .i) (end (x .path)) && (ltb (r .j) (r .i) && member (r .j) (x .path)))

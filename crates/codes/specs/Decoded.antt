@@ -83,7 +83,8 @@ stepped-bytes x e g a b =
     one-of-three (eqb (length (x .kinds)) 0) (forward e) _ _ _ (byte-list-append (e .ki ∷ []) (e .kj ∷ []) (one-byte (e .ki) a) (one-byte (e .kj) b))
     (byte-list-append (x .kinds) (e .kj ∷ []) g (one-byte (e .kj) b)) g
 
-read-bytes : (x : Reading) (rs : List Rec) → byte-list (x .kinds) ≡ true → byte-list (rec-bytes rs) ≡ true → byte-list (read-rows x rs .kinds) ≡ true
+read-bytes :
+    (x : Reading) (rs : List Rec) → byte-list (x .kinds) ≡ true → byte-list (rec-bytes rs) ≡ true → byte-list (read-rows x rs .kinds) ≡ true
 unfolding read-rows rec-bytes byte-list
 read-bytes x [] g b = g
 read-bytes x (r ∷ rs) g b =

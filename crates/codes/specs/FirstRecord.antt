@@ -19,7 +19,8 @@ use Rattle.codes.specs.Greedy.{Fits, fits-one}
 unfoldable pub first-record : (d : Drawing) (u w k : ℕ) → Rec
 first-record d u w k = record { i = 0; j = 1; ki = kind d u; c = k; kj = kind d w }
 
-pub first-embedding : (d : Drawing) → Simple d → (u w k : ℕ) → Has u w k (d .cables) → Embedding (drawn (begun (first-record d u w k))) d (u ∷ w ∷ [])
+pub first-embedding :
+    (d : Drawing) → Simple d → (u w k : ℕ) → Has u w k (d .cables) → Embedding (drawn (begun (first-record d u w k))) d (u ∷ w ∷ [])
 unfolding cable-of first-record
 first-embedding d s u w k h = record { size = refl; injective = injective; lands = lands; kinds = kinds; cables = cables }
   where

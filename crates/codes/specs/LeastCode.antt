@@ -20,7 +20,18 @@ use Rattle.codes.specs.Reading.{Invariant}
 use Rattle.codes.specs.Rows.{stepped-is, begun-is, begun-to-test, rows-one, read-snoc, rows-invariant, decoded-cables, good-from-test}
 use Rattle.codes.specs.Extension.{Extension, Local, local-extension}
 use Rattle.codes.specs.Tight.{Tight, All-tight, tight-begun, tight-step, Some-local, progress}
-use Rattle.codes.specs.Greedy.{Fits, fits-one, fits-extension, extension-fits, fits-prefix, fits-through, Greedy, greedy-snoc, greedy-prefix, greedy-within}
+use Rattle.codes.specs.Greedy.{
+  Fits,
+  fits-one,
+  fits-extension,
+  extension-fits,
+  fits-prefix,
+  fits-through,
+  Greedy,
+  greedy-snoc,
+  greedy-prefix,
+  greedy-within,
+}
 use Rattle.codes.specs.FirstRecord.{first-record, first-fits, some-cable}
 use Rattle.codes.specs.LeastExtension.{Least-extension, least-extension}
 use Rattle.codes.specs.FullCode.{
@@ -157,7 +168,9 @@ module _ (labels : Rec → Rec → Bool) (o : Label-order labels) (d : Drawing) 
 
 -- THE TEST: good rows are the least code of what they describe if they are greedy there
 module _ (labels : Rec → Rec → Bool) (o : Label-order labels) where
-  pub greedy-least-itself : (r : Rec) (rs : List Rec) → rows-good (r ∷ rs) ≡ true → Greedy labels (decoded (r ∷ rs)) [] (r ∷ rs) → Least-by labels (decoded (r ∷ rs)) (r ∷ rs)
+  pub greedy-least-itself :
+      (r : Rec) (rs : List Rec) → rows-good (r ∷ rs) ≡ true → Greedy labels (decoded (r ∷ rs)) [] (r ∷ rs)
+      → Least-by labels (decoded (r ∷ rs)) (r ∷ rs)
   greedy-least-itself r rs g h =
       let w = good-from-test (r ∷ rs) g in
       greedy-least (decoded (r ∷ rs)) (decoded-simple r rs (w .accepted)) labels o (omega (arith, decoded-cables (r ∷ rs), w .most)) (r ∷ rs) h

@@ -137,7 +137,8 @@ module _ (labels : Rec → Rec → Bool) (o : Label-order labels) (d : Drawing) 
   module _ (p : Pattern d) where
     search-on :
         (n : ℕ) (r : Rec) (rs : List Rec) (x : Reading) (cs : List Choice) → read-rows fresh (r ∷ rs) ≡ x
-        → length (r ∷ rs) + n ≡ length (d .cables) → State labels o d p r rs → Lists-nodes d (r ∷ rs) cs → Least-by labels d (r ∷ rs ++ search-rows labels d n x cs)
+        → length (r ∷ rs) + n ≡ length (d .cables) → State labels o d p r rs → Lists-nodes d (r ∷ rs) cs
+        → Least-by labels d (r ∷ rs ++ search-rows labels d n x cs)
     unfolding search-rows least-choice
     search-on zero r rs x cs e m s l = rw append-nil (state-least labels o d p r rs s (omega arith))
     search-on (suc n) r rs x [] e m s l =

@@ -42,7 +42,9 @@ module _ (labels : Rec → Rec → Bool) (o : Label-order labels) (d : Drawing) 
 
   -- its first record comes after the best's: passed over
   pub started-skip :
-      (best : List Rec) (Seen More : (u w k : ℕ) → Type 0) (u w k : ℕ) (t : Started best Seen) → rec-before-by labels (t .r) (first-record d u w k) ≡ true
+      (best :
+      List Rec) (Seen More : (u w k : ℕ)
+      → Type 0) (u w k : ℕ) (t : Started best Seen) → rec-before-by labels (t .r) (first-record d u w k) ≡ true
       → One-more Seen More u w k → Started best More
   started-skip best Seen More u w k t z split =
       record {

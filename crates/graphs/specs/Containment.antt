@@ -41,7 +41,9 @@ module _ (p q : Drawing) (ends-p : Ends-in-range p) (ends-q : Ends-in-range q) (
   support-falls [] = omega arith
   support-falls (d ∷ ds) = go (contains q d) (contains p d) (contains-compose p q d ends-p ends-q h) (support-falls ds)
     where
-      go : (x y : Bool) → (x ≡ true → y ≡ true) → support q ds ≤ support p ds → cond {A = ℕ} x 1 0 + support q ds ≤ cond {A = ℕ} y 1 0 + support p ds
+      go :
+          (x y : Bool) → (x ≡ true → y ≡ true) → support q ds ≤ support p ds
+          → cond {A = ℕ} x 1 0 + support q ds ≤ cond {A = ℕ} y 1 0 + support p ds
       go true y f l = rw (f refl) (omega arith)
       go false true f l = omega arith
       go false false f l = omega arith

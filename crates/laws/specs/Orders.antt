@@ -214,11 +214,14 @@ module _ {A : Type 0} where
     pub at : (a : A) → eq a a ≡ true
 
   module _ (lt eq : A → A → Bool) (s : Strict-order lt) (e : Equality-test eq) where
-    list-before-cons : (a b : A) (xs ys : List A) → list-before lt eq (a ∷ xs) (b ∷ ys) ≡ true → (lt a b ≡ true) ⊎ ((a ≡ b) × (list-before lt eq xs ys ≡ true))
+    list-before-cons :
+        (a b : A) (xs ys : List A) → list-before lt eq (a ∷ xs) (b ∷ ys) ≡ true → (lt a b ≡ true) ⊎ ((a ≡ b) × (list-before lt eq xs ys ≡ true))
     unfolding list-before
     list-before-cons a b xs ys h = go (eq a b) refl h
       where
-        go : (x : Bool) → eq a b ≡ x → cond x (list-before lt eq xs ys) (lt a b) ≡ true → (lt a b ≡ true) ⊎ ((a ≡ b) × (list-before lt eq xs ys ≡ true))
+        go :
+            (x : Bool) → eq a b ≡ x → cond x (list-before lt eq xs ys) (lt a b) ≡ true
+            → (lt a b ≡ true) ⊎ ((a ≡ b) × (list-before lt eq xs ys ≡ true))
         go true p q = inr (e .to a b p, q)
         go false p q = inl q
 
@@ -247,7 +250,8 @@ module _ {A : Type 0} where
     list-before-trans (x ∷ xs) (y ∷ ys) (z ∷ zs) p q = go (list-before-cons x y xs ys p) (list-before-cons y z ys zs q) (list-before-trans xs ys zs)
       where
         go : (lt x y ≡ true) ⊎ ((x ≡ y) × (list-before lt eq xs ys ≡ true)) → (lt y z ≡ true) ⊎ ((y ≡ z) × (list-before lt eq ys zs ≡ true))
-            → (list-before lt eq xs ys ≡ true → list-before lt eq ys zs ≡ true → list-before lt eq xs zs ≡ true) → list-before lt eq (x ∷ xs) (z ∷ zs) ≡ true
+            → (list-before lt eq xs ys ≡ true → list-before lt eq ys zs ≡ true → list-before lt eq xs zs ≡ true)
+            → list-before lt eq (x ∷ xs) (z ∷ zs) ≡ true
         go (inl a) (inl b) ih = head-before x z xs zs (s .trans x y z a b)
         go (inl a) (inr b) ih = head-before x z xs zs (rw (b .0) at a)
         go (inr a) (inl b) ih = head-before x z xs zs (rw (a .0) b)
@@ -296,6 +300,8 @@ module _ {A : Type 0} where
         next p (is-prefix z zs q) = is-prefix z zs (ap₂ _∷_ (sym p) q)
         next p (differs-at ps a b us vs q r l) = differs-at (x ∷ ps) a b us vs (ap (λ (l : List A). x ∷ l) q) (ap₂ _∷_ (sym p) r) l
 
-        go : (lt x y ≡ true) ⊎ ((x ≡ y) × (list-before lt eq xs ys ≡ true)) → (list-before lt eq xs ys ≡ true → Precedes xs ys) → Precedes (x ∷ xs) (y ∷ ys)
+        go :
+            (lt x y ≡ true) ⊎ ((x ≡ y) × (list-before lt eq xs ys ≡ true)) → (list-before lt eq xs ys ≡ true → Precedes xs ys)
+            → Precedes (x ∷ xs) (y ∷ ys)
         go (inl l) ih = differs-at [] x y xs ys refl refl l
         go (inr p) ih = next (p .0) (ih (p .1))

@@ -3,11 +3,35 @@
 use mathlib.Core.Path.{_≡_, refl, sym, ap, ap₂, _∙_}
 use mathlib.Core.List.{List, [], _∷_, _++_, append-assoc, append-nil}
 use Prim.Native.Nat.{ℕ, zero, suc, _+_, _*_, _-_, _/_, _%_, _≤_, _<_}
-use native.Mathlib.Nat.{not-suc-le-zero, le-of-suc-le-suc, div-add-mod', mul-comm, mul-zero, mul-suc, zero-add, suc-add, add-comm, eq-of-mul-eq-mul-left, sub-zero}
+use native.Mathlib.Nat.{
+  not-suc-le-zero,
+  le-of-suc-le-suc,
+  div-add-mod',
+  mul-comm,
+  mul-zero,
+  mul-suc,
+  zero-add,
+  suc-add,
+  add-comm,
+  eq-of-mul-eq-mul-left,
+  sub-zero,
+}
 use native.Mathlib.Numerals.{add-one}
 use native.Mathlib.Omega.{arith}
 use lib.ListN.{length, getD, take, drop, length-append, length-take, length-drop}
-use lib.Seq.{take-append-seam, drop-append-seam, take-append-le, drop-append-le, drop-drop, take-add, getD-take, getD-drop, length-take-le, take-at, drop-at}
+use lib.Seq.{
+  take-append-seam,
+  drop-append-seam,
+  take-append-le,
+  drop-append-le,
+  drop-drop,
+  take-add,
+  getD-take,
+  getD-drop,
+  length-take-le,
+  take-at,
+  drop-at,
+}
 use Rattle.laws.specs.Lists.{snoc, concat, nil-of-length}
 
 module _ {A : Type 0} where

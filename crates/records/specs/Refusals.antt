@@ -2,7 +2,23 @@
 use Prim.Native.Nat.{ℕ, _<_}
 use lib.Dec.{lit<}
 use Rattle.records.specs.declared.refusal.Refusal.{Refusal}
-use Rattle.records.specs.declared.refusal.Refusal.the-variants.{DrawingLength, DeviceCount, CableCount, CableEnd, CableLoop, CablePair, UnusedByte, NotConnected, CodeLength, Step, Kind, Threshold, SizeLimit, SurveyDrawings, OutputLength}
+use Rattle.records.specs.declared.refusal.Refusal.the-variants.{
+  DrawingLength,
+  DeviceCount,
+  CableCount,
+  CableEnd,
+  CableLoop,
+  CablePair,
+  UnusedByte,
+  NotConnected,
+  CodeLength,
+  Step,
+  Kind,
+  Threshold,
+  SizeLimit,
+  SurveyDrawings,
+  OutputLength,
+}
 use Rattle.records.specs.declared.refusal.Checked.{Checked}
 use Rattle.records.specs.declared.refusal.Checked.the-variants.{Accepted, Refused}
 

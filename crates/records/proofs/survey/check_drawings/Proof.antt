@@ -8,7 +8,16 @@ use Rattle.graphs.specs.Drawing.{drawing-refusal}
 use Rattle.graphs.specs.Survey.{refusal, records-in, drawings-refusal}
 use Rattle.records.specs.RefusalLaws.{refused-number, refused-positive, accepted-zero}
 use Rattle.records.specs.Surveys.{drawings-in}
-use Rattle.records.specs.SurveyLaws.{drawings-from, drawing-part, drawings-start, drawing-refused, drawing-passed, drawings-end, answer-refused, answer-accepted}
+use Rattle.records.specs.SurveyLaws.{
+  drawings-from,
+  drawing-part,
+  drawings-start,
+  drawing-refused,
+  drawing-passed,
+  drawings-end,
+  answer-refused,
+  answer-accepted,
+}
 use Rattle.records.proofs.survey.check_drawings.Statement.{statement}
 use Rattle.records.proofs.survey.check_drawings.Tie as tie
 

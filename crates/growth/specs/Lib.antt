@@ -4,3 +4,4 @@ pub mod Frequent
 pub mod Catalogues
 pub mod Marks
 pub mod Places
+pub mod Cells

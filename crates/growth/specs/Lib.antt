@@ -5,3 +5,4 @@ pub mod Catalogues
 pub mod Marks
 pub mod Places
 pub mod Cells
+pub mod Output

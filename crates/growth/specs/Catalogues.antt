@@ -78,8 +78,7 @@ module _ (labels : Rec → Rec → Bool) (o : Label-order labels) (ds : List Dra
   from-entries e (c ∷ cs) (Mem.there m) = let t = from-entries e cs m in (t .0, Mem.there (t .1), t .2)
 
   -- ALL FREQUENT LEAST CODES, with their supports, are a catalogue
-  pub listed-catalogue :
-      (cs : List (List Rec)) → Listed labels o (Frequent labels ds s) l [] cs → Catalogue-by labels ds s l (map (entry-for ds) cs)
+  pub listed-catalogue : (cs : List (List Rec)) → Listed labels o (Frequent labels ds s) l [] cs → Catalogue-by labels ds s l (map (entry-for ds) cs)
   listed-catalogue cs t = record { rise = rw (codes-of cs) (t .rise); sound = sound; whole = whole }
     where
       sound : (e : Entry) → Mem e (map (entry-for ds) cs) → Frequent-entry labels ds s l e

@@ -34,8 +34,7 @@ pub fits-contained : (d : Drawing) (r : Rec) (rs : List Rec) → Fits d (r ∷ r
 unfolding decoded
 fits-contained d r rs t = contains-from-embedding (decoded (r ∷ rs)) d (t .numbering) (rows-invariant r rs (t .accepted) .simple .ends) (t .embedding)
 
-pub contained-fits :
-    (d : Drawing) (r : Rec) (rs : List Rec) → rows-refusal fresh (r ∷ rs) ≡ 0 → contains (decoded (r ∷ rs)) d ≡ true → Fits d (r ∷ rs)
+pub contained-fits : (d : Drawing) (r : Rec) (rs : List Rec) → rows-refusal fresh (r ∷ rs) ≡ 0 → contains (decoded (r ∷ rs)) d ≡ true → Fits d (r ∷ rs)
 unfolding decoded
 contained-fits d r rs ok h =
     let m = embedding-from-contains (decoded (r ∷ rs)) d (rows-invariant r rs ok .simple .ends) h in
@@ -55,8 +54,7 @@ supported p (d ∷ ds) h = go (contains p d) refl (supported p ds) h
 
 -- WHETHER a code is the least of a pattern can be decided
 pub decide-least :
-    (labels :
-    Rec → Rec → Bool) → Label-order labels → (d : Drawing) → Pattern d → (rs : List Rec) → Least-by labels d rs ⊎ (Least-by labels d rs → ⊥)
+    (labels : Rec → Rec → Bool) → Label-order labels → (d : Drawing) → Pattern d → (rs : List Rec) → Least-by labels d rs ⊎ (Least-by labels d rs → ⊥)
 decide-least labels o d p rs = go (before-strict labels o .tri (l .0) rs)
   where
     l : (rs : List Rec) × Least-by labels d rs
@@ -103,9 +101,7 @@ prefix-good r rs ss h =
     good-to-test (r ∷ rs)
     (record { one = omega arith; most = omega (arith, g .most, length-append rs ss); accepted = rows-split fresh (r ∷ rs) ss (g .accepted) .0 })
 
-pub prefix-pattern :
-    (r : Rec) (rs ss : List Rec) → rows-good (r ∷ rs ++ ss) ≡ true → is-pattern (decoded (r ∷ rs ++ ss)) ≡ true
-    → is-pattern (decoded (r ∷ rs)) ≡ true
+pub prefix-pattern : (r : Rec) (rs ss : List Rec) → rows-good (r ∷ rs ++ ss) ≡ true → is-pattern (decoded (r ∷ rs ++ ss)) ≡ true → is-pattern (decoded (r ∷ rs)) ≡ true
 unfolding decoded
 prefix-pattern r rs ss h p = pattern-to-test (decoded (r ∷ rs)) (decoded-pattern (r ∷ rs) g bytes)
   where
@@ -155,15 +151,11 @@ module _ (labels : Rec → Rec → Bool) (o : Label-order labels) (ds : List Dra
   pub decide-frequent : (rs : List Rec) → Frequent labels ds s rs ⊎ (Frequent labels ds s rs → ⊥)
   decide-frequent rs = by-pattern (test (is-pattern (decoded rs)))
     where
-      by-support :
-          is-pattern (decoded rs) ≡ true → Least-by labels (decoded rs) rs → Dec (s ≤ support (decoded rs) ds)
-          → Frequent labels ds s rs ⊎ (Frequent labels ds s rs → ⊥)
+      by-support : is-pattern (decoded rs) ≡ true → Least-by labels (decoded rs) rs → Dec (s ≤ support (decoded rs) ds) → Frequent labels ds s rs ⊎ (Frequent labels ds s rs → ⊥)
       by-support p m (yes q) = inl (record { drawn = p; least = m; often = q })
       by-support p m (no q) = inr (λ f. q (f .often))
 
-      by-least :
-          is-pattern (decoded rs) ≡ true → Least-by labels (decoded rs) rs ⊎ (Least-by labels (decoded rs) rs → ⊥)
-          → Frequent labels ds s rs ⊎ (Frequent labels ds s rs → ⊥)
+      by-least : is-pattern (decoded rs) ≡ true → Least-by labels (decoded rs) rs ⊎ (Least-by labels (decoded rs) rs → ⊥) → Frequent labels ds s rs ⊎ (Frequent labels ds s rs → ⊥)
       by-least p (inl m) = by-support p m (decLe s (support (decoded rs) ds))
       by-least p (inr m) = inr (λ f. m (f .least))
 

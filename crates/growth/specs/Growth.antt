@@ -45,9 +45,7 @@ module _ (labels : Rec → Rec → Bool) (o : Label-order labels) (good : List R
   listed-none γ = record { rise = rises-nil (before-by labels); sound = λ c m. elim m [ ]; whole = λ e more m. elim m [ ] }
 
   -- es holds every next record that matters
-  pub listed-all :
-      (γ es : List Rec) (cs : List (List Rec)) → ((e : Rec) (more : List Rec) → good (γ ++ e ∷ more) → Mem e es) → Listed-by γ es cs
-      → Listed γ cs
+  pub listed-all : (γ es : List Rec) (cs : List (List Rec)) → ((e : Rec) (more : List Rec) → good (γ ++ e ∷ more) → Mem e es) → Listed-by γ es cs → Listed γ cs
   listed-all γ es cs all t =
       record {
         rise = t .rise;
@@ -73,8 +71,7 @@ module _ (labels : Rec → Rec → Bool) (o : Label-order labels) (good : List R
     -- a good one is listed, then what goes on from it, then the later ones
     pub listed-take :
         (γ : List Rec) (e : Rec) (es : List Rec) (cs ds : List (List Rec)) → good (snoc γ e) → length (snoc γ e) ≤ l
-        → ((x : Rec) → Mem x es → rec-before-by labels e x ≡ true) → Listed (snoc γ e) cs → Listed-by γ es ds
-        → Listed-by γ (e ∷ es) ((snoc γ e ∷ cs) ++ ds)
+        → ((x : Rec) → Mem x es → rec-before-by labels e x ≡ true) → Listed (snoc γ e) cs → Listed-by γ es ds → Listed-by γ (e ∷ es) ((snoc γ e ∷ cs) ++ ds)
     listed-take γ e es cs ds g n later t u = record { rise = rise; sound = sound; whole = whole }
       where
         under : (c : List Rec) → Goes-on (snoc γ e) c → (more : List Rec) × (c ≡ γ ++ e ∷ more)
@@ -130,9 +127,7 @@ module _ (labels : Rec → Rec → Bool) (o : Label-order labels) (good : List R
       siblings γ n below [] r = ([], listed-none γ)
       siblings γ n below (e ∷ es) r = go (decide (snoc γ e)) (siblings γ n below es (rises-tail (rec-before-by labels) e es r))
         where
-          go :
-              good (snoc γ e) ⊎ (good (snoc γ e) → ⊥) → (cs : List (List Rec)) × Listed-by γ es cs
-              → (cs : List (List Rec)) × Listed-by γ (e ∷ es) cs
+          go : good (snoc γ e) ⊎ (good (snoc γ e) → ⊥) → (cs : List (List Rec)) × Listed-by γ es cs → (cs : List (List Rec)) × Listed-by γ (e ∷ es) cs
           go (inl g) (ds, u) =
               let t = below e in (
                 (snoc γ e ∷ t .0) ++ ds,

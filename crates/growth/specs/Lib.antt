@@ -6,3 +6,11 @@ pub mod Marks
 pub mod Places
 pub mod Cells
 pub mod Output
+pub mod CellLaws
+pub mod RecordOrder
+pub mod PlaceLaws
+pub mod PlacedRecords
+pub mod Counting
+pub mod Counted
+pub mod ListedBy
+pub mod Firsts

@@ -68,6 +68,12 @@ module _ {A : Type 0} where
   mem-at d (x ∷ xs) zero h = here refl
   mem-at d (x ∷ xs) (suc i) h = there (mem-at d xs i (le-of-suc-le-suc h))
 
+  -- within a list it plays no part what is read past its end
+  pub getD-default : (xs : List A) (i : ℕ) (d e : A) → i < length xs → getD xs i d ≡ getD xs i e
+  getD-default [] i d e h = absurd (not-suc-le-zero h)
+  getD-default (x ∷ xs) zero d e h = refl
+  getD-default (x ∷ xs) (suc i) d e h = getD-default xs i d e (le-of-suc-le-suc h)
+
   pub nil-of-length : (xs : List A) → length xs ≡ 0 → xs ≡ []
   nil-of-length [] h = refl
   nil-of-length (x ∷ xs) h = absurd (omega arith)

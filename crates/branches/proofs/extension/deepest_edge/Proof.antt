@@ -1,0 +1,60 @@
+-- `extension::deepest_edge` meets its contract. The invariant: no edge starts from the places left behind. Assumes
+-- nothing.
+use mathlib.Core.Path.{_≡_}
+use Prim.Native.Nat.{_≤_, _-_}
+use native.Mathlib.Omega.{arith}
+use borrow.Author.Needs.{needs}
+use Rattle.branches.specs.Branches.{state-of}
+use Rattle.branches.specs.ExtensionLaws.{No-edge-from, places-start, places-next, edge-here, edges-end}
+use Rattle.branches.proofs.extension.deepest_edge.Statement.{statement}
+use Rattle.branches.proofs.extension.deepest_edge.Tie as tie
+
+abbrev Inv-loop : tie.InvT-loop
+Inv-loop table branch above₀ above = (above ≤ branch .count) × No-edge-from table (state-of branch) above
+
+abbrev μ-loop : tie.MeasureT-loop
+μ-loop table branch above₀ above = above
+
+loop-holds : tie.Need-loop-holds Inv-loop μ-loop
+loop-holds c = (search needs, places-start (c .args .table .now) (state-of (c .args .branch)))
+
+sub-q : tie.Need-sub-q Inv-loop μ-loop
+sub-q c = search needs
+
+least-edge-requires : tie.Need-least-edge-requires Inv-loop μ-loop
+least-edge-requires c κs = search needs
+
+returns : tie.Need-returns Inv-loop μ-loop
+returns c =
+    let s = c .before .before .before .before in
+    let l = c .before .before .before .loop in
+    edge-here (s .args .table .now) (state-of (s .args .branch)) (l .above) (l .above - 1) (c .before .least-edge .result) (omega arith) (omega arith) (s .pre .1) (l .inv .1) (c .before .least-edge .ensures) (omega arith)
+
+loop-less : tie.Need-loop-less Inv-loop μ-loop
+loop-less c = search needs
+
+loop-again : tie.Need-loop-again Inv-loop μ-loop
+loop-again c =
+    let s = c .before .before .before .before in
+    let l = c .before .before .before .loop in
+    (search needs, places-next (s .args .table .now) (state-of (s .args .branch)) (l .above) (l .above - 1) (c .before .least-edge .result) (omega arith) (l .inv .1) (c .before .least-edge .ensures) (omega arith))
+
+returns-2 : tie.Need-returns-2 Inv-loop μ-loop
+returns-2 c =
+    let s = c .before .before in
+    let e : c .before .loop .above ≡ 0 = omega arith in
+    edges-end (s .args .table .now) (state-of (s .args .branch)) (s .pre .1) (rw e at (c .before .loop .inv .1))
+
+pub deepest-edge-spec : {M : Type 1} → statement M
+deepest-edge-spec =
+    tie.close
+    (tie.spec
+    Inv-loop
+    μ-loop
+    loop-holds
+    sub-q
+    least-edge-requires
+    returns
+    loop-less
+    loop-again
+    returns-2)

@@ -1,0 +1,59 @@
+-- `extension::first_chord` meets its contract. The invariant: no chord goes below place q. Assumes nothing.
+use mathlib.Core.Path.{_≡_}
+use Prim.Native.Nat.{_≤_, _-_}
+use native.Mathlib.Omega.{arith}
+use borrow.Author.Needs.{needs}
+use Rattle.branches.specs.Branches.{state-of}
+use Rattle.branches.specs.ExtensionLaws.{No-chord-below, chords-start, chords-next, chord-here, chords-end}
+use Rattle.branches.proofs.extension.first_chord.Statement.{statement}
+use Rattle.branches.proofs.extension.first_chord.Tie as tie
+
+abbrev Inv-loop : tie.InvT-loop
+Inv-loop table branch n q₀ q = (q ≤ branch .count) × No-chord-below table (state-of branch) q
+
+abbrev μ-loop : tie.MeasureT-loop
+μ-loop table branch n q₀ q = branch .count - q
+
+loop-holds : tie.Need-loop-holds Inv-loop μ-loop
+loop-holds c = (search needs, chords-start (c .args .table .now) (state-of (c .args .branch)))
+
+chord-label-requires : tie.Need-chord-label-requires Inv-loop μ-loop
+chord-label-requires c κs = search needs
+
+returns : tie.Need-returns Inv-loop μ-loop
+returns c =
+    let s = c .before .before .before .before in
+    let l = c .before .before .before .loop in
+    chord-here (s .args .table .now) (state-of (s .args .branch)) (l .q) (c .before .chord-label .result) (l .inv .1) (c .before .chord-label .ensures) (omega arith)
+
+add-q : tie.Need-add-q Inv-loop μ-loop
+add-q c = search needs
+
+loop-less : tie.Need-loop-less Inv-loop μ-loop
+loop-less c = search needs
+
+loop-again : tie.Need-loop-again Inv-loop μ-loop
+loop-again c =
+    let s = c .before .before .before .before in
+    let l = c .before .before .before .loop in
+    (search needs, chords-next (s .args .table .now) (state-of (s .args .branch)) (l .q) (c .before .chord-label .result) (l .inv .1) (c .before .chord-label .ensures) (omega arith))
+
+returns-2 : tie.Need-returns-2 Inv-loop μ-loop
+returns-2 c =
+    let s = c .before .before in
+    let e : c .before .loop .q ≡ s .args .branch .count = omega arith in
+    chords-end (s .args .table .now) (state-of (s .args .branch)) (rw e at (c .before .loop .inv .1))
+
+pub first-chord-spec : {M : Type 1} → statement M
+first-chord-spec =
+    tie.close
+    (tie.spec
+    Inv-loop
+    μ-loop
+    loop-holds
+    chord-label-requires
+    returns
+    add-q
+    loop-less
+    loop-again
+    returns-2)

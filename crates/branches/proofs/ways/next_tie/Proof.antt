@@ -1,0 +1,84 @@
+-- `ways::next_tie` meets its contract. The invariant: no device from `from` on below w ties. Assumes nothing.
+use mathlib.Core.Path.{_≡_, sym, _∙_}
+use mathlib.Core.Logic.{⊎-elim}
+use Prim.Native.Nat.{_≤_, _-_}
+use native.Mathlib.Omega.{arith}
+use lib.ListN.{length}
+use borrow.Author.Tests.{not-true, not-false}
+use borrow.Author.Needs.{needs}
+use Rattle.branches.specs.ExtensionLaws.{marked-free, marked-used}
+use Rattle.branches.specs.Branches.{state-of}
+use Rattle.branches.specs.WayLaws.{No-tie-below, ties-start, ties-next, tie-here, ties-end}
+use Rattle.branches.proofs.ways.next_tie.Statement.{statement}
+use Rattle.branches.proofs.ways.next_tie.Tie as tie
+
+abbrev Inv-loop : tie.InvT-loop
+Inv-loop table q l from branch device w₀ w = (from ≤ w) × No-tie-below table (state-of branch) q l from w
+
+abbrev μ-loop : tie.MeasureT-loop
+μ-loop table q l from branch device w₀ w = 10 - w
+
+device-requires : tie.Need-device-requires Inv-loop μ-loop
+device-requires c κs = c .pre
+
+loop-holds : tie.Need-loop-holds Inv-loop μ-loop
+loop-holds c =
+    let a = c .before .args in
+    (search needs, ties-start (a .table .now) (state-of (a .t2)) (a .q) (a .l) (a .from))
+
+element-copy-out-if1 : tie.Need-element-copy-out-if1 Inv-loop μ-loop
+element-copy-out-if1 c = search needs
+
+label-requires : tie.Need-label-requires Inv-loop μ-loop
+label-requires c κs = (c .before .before .before .before .device .ensures .1, omega arith)
+
+returns : tie.Need-returns Inv-loop μ-loop
+returns c =
+    let s = c .before .before .before .before .before .before .before in
+    let l = c .before .before .before .before .before .loop in
+    let ten : length (s .args .t2 .used) ≡ 10 = search needs in
+    tie-here (s .args .table .now) (state-of (s .args .t2)) (s .args .q) (s .args .l) (s .args .from) (l .w) (l .inv .0) (omega arith) (l .inv .1)
+    (marked-free (state-of (s .args .t2)) (l .w) (omega arith) ten _ (not-true _ (c .before .before .if1 .taken)))
+    (rw (← c .before .before .before .before .before .before .device .ensures .0) (sym (c .before .label .ensures) ∙ c .if2 .taken))
+
+add-w : tie.Need-add-w Inv-loop μ-loop
+add-w c = search needs
+
+loop-less : tie.Need-loop-less Inv-loop μ-loop
+loop-less c = search needs
+
+loop-again : tie.Need-loop-again Inv-loop μ-loop
+loop-again c =
+    let s = c .before .before .before .before .before in
+    let l = c .before .before .before .loop in
+    let b = state-of (s .args .t2) in
+    let ten : length (s .args .t2 .used) ≡ 10 = search needs in (
+      search needs,
+      ties-next (s .args .table .now) b (s .args .q) (s .args .l) (s .args .from) (l .w) (l .inv .1)
+          (⊎-elim
+          (λ w k. w .2 .left (w .1 .ensures ∙ (rw (c .before .before .before .before .device .ensures .0) (k .label))))
+          (λ w k. marked-used b (l .w) (omega arith) ten _ (not-false _ (w .left)) (k .free))
+          (c .if1 .came)),
+    )
+
+returns-2 : tie.Need-returns-2 Inv-loop μ-loop
+returns-2 c =
+    let s = c .before .before .before in
+    let l = c .before .loop in
+    ties-end (s .args .table .now) (state-of (s .args .t2)) (s .args .q) (s .args .l) (s .args .from) (l .w) (c .loop-test .left) (l .inv .1)
+
+pub next-tie-spec : {M : Type 1} → statement M
+next-tie-spec =
+    tie.close
+    (tie.spec
+    Inv-loop
+    μ-loop
+    device-requires
+    loop-holds
+    element-copy-out-if1
+    label-requires
+    returns
+    add-w
+    loop-less
+    loop-again
+    returns-2)

@@ -1,0 +1,13 @@
+pub mod Records
+pub mod RecordLaws
+pub mod Tables
+pub mod TableLaws
+pub mod TableOfCode
+pub mod TableOfDrawing
+pub mod CodeCables
+pub mod CodeRows
+pub mod Branches
+pub mod Extensions
+pub mod ExtensionLaws
+pub mod Ways
+pub mod WayLaws

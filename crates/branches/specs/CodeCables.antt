@@ -14,9 +14,19 @@ use Rattle.graphs.specs.Drawing.{Cable, kind}
 use Rattle.codes.specs.Code.{Rec, Reading, fresh, rec-in, forward, cable-of, begun, stepped, rows-refusal, read-rows, decoded, code-refusal}
 use Rattle.codes.specs.Step.{Step, steps-back, steps-forward, after}
 use Rattle.codes.specs.Reading.{Invariant}
-use Rattle.codes.specs.Rows.{step-from-test, stepped-is, begun-is, begun-from-test, rows-cons, rows-split, read-append, rows-invariant, decoded-cables}
+use Rattle.codes.specs.Rows.{
+  step-from-test,
+  stepped-is,
+  begun-is,
+  begun-from-test,
+  rows-cons,
+  rows-split,
+  read-append,
+  rows-invariant,
+  decoded-cables,
+}
 use Rattle.codes.specs.CodeBytes.{recs-in-length}
-use Rattle.branches.specs.CodeRows.{records-of}
+use Rattle.codes.specs.Code.{code-records}
 use Rattle.branches.specs.CodeRows.{record-at, record-among, record-accepted}
 
 -- ONE RECORD after the first adds its cable, and leaves the kinds that are given
@@ -49,10 +59,14 @@ read-cables x (r ∷ rs) h =
     read-cables (stepped x r) rs (s .started) ∙ ap (λ (cs : List Cable). cs ++ map cable-of rs) (s .cables)
     ∙ append-assoc (x .cables) (cable-of r ∷ []) (map cable-of rs)
 
-read-kinds : (x : Reading) (rs : List Rec) (v : ℕ) → 0 < length (x .kinds) → v < length (x .kinds) → getD (read-rows x rs .kinds) v 256 ≡ getD (x .kinds) v 256
+read-kinds :
+    (x : Reading) (rs : List Rec) (v : ℕ) → 0 < length (x .kinds) → v < length (x .kinds)
+    → getD (read-rows x rs .kinds) v 256 ≡ getD (x .kinds) v 256
 unfolding read-rows
 read-kinds x [] v h l = refl
-read-kinds x (r ∷ rs) v h l = let s = adds x r h in read-kinds (stepped x r) rs v (s .started) (omega (arith, s .more)) ∙ s .kept v l
+read-kinds x (r ∷ rs) v h l =
+    let s = adds x r h in
+    read-kinds (stepped x r) rs v (s .started) (omega (arith, s .more)) ∙ s .kept v l
 
 -- THE CABLES that a code describes
 pub decoded-cables-are : (rs : List Rec) → decoded rs .cables ≡ map cable-of rs
@@ -121,21 +135,21 @@ module _ (γ : List Rec) (r : Rec) (ss : List Rec) (ok : rows-refusal fresh (γ 
   decoded-j-kind = rw read-through (read-kinds _ ss (r .j) (tells .started) (tells .j-low) ∙ tells .j-kind)
 
 -- RECORD k of an accepted code
-pub code-cables : (bs : List ℕ) → length (decoded (records-of bs) .cables) ≡ length bs / 5
-code-cables bs = decoded-cables (records-of bs) ∙ recs-in-length (length bs / 5) bs
+pub code-cables : (bs : List ℕ) → length (decoded (code-records bs) .cables) ≡ length bs / 5
+code-cables bs = decoded-cables (code-records bs) ∙ recs-in-length (length bs / 5) bs
 
 module _ (bs : List ℕ) (k : ℕ) (h : k < length bs / 5) (r : Rec) (is : r ≡ rec-in (row 5 k bs)) where
-  pub record-cable : getD (decoded (records-of bs) .cables) k (cable-of r) ≡ cable-of r
+  pub record-cable : getD (decoded (code-records bs) .cables) k (cable-of r) ≡ cable-of r
   record-cable =
-      rw (decoded-cables-are (records-of bs)) (List·getD-map cable-of (records-of bs) k r ∙ ap cable-of (record-at bs k h r is))
+      rw (decoded-cables-are (code-records bs)) (List·getD-map cable-of (code-records bs) k r ∙ ap cable-of (record-at bs k h r is))
 
   module _ (ok : code-refusal bs ≡ 0) where
-    pub record-i-kind : kind (decoded (records-of bs)) (r .i) ≡ r .ki
+    pub record-i-kind : kind (decoded (code-records bs)) (r .i) ≡ r .ki
     record-i-kind =
         rw (record-among bs k h r is)
-        (decoded-i-kind (take k (records-of bs)) r (drop (suc k) (records-of bs)) (record-accepted bs ok k h r is))
+        (decoded-i-kind (take k (code-records bs)) r (drop (suc k) (code-records bs)) (record-accepted bs ok k h r is))
 
-    pub record-j-kind : kind (decoded (records-of bs)) (r .j) ≡ r .kj
+    pub record-j-kind : kind (decoded (code-records bs)) (r .j) ≡ r .kj
     record-j-kind =
         rw (record-among bs k h r is)
-        (decoded-j-kind (take k (records-of bs)) r (drop (suc k) (records-of bs)) (record-accepted bs ok k h r is))
+        (decoded-j-kind (take k (code-records bs)) r (drop (suc k) (code-records bs)) (record-accepted bs ok k h r is))

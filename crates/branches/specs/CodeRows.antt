@@ -14,31 +14,28 @@ use Rattle.codes.specs.Code.{Rec, fresh, rec-in, recs-in, rows-refusal, decoded
 use Rattle.codes.specs.Rows.{rows-invariant, Good, good-from-test}
 use Rattle.codes.specs.FullCode.{decoded-simple}
 use Rattle.codes.specs.CodeBytes.{recs-in-length, accepted-code}
-
--- THE RECORDS of a code
-abbrev pub records-of : List ℕ → List Rec
-records-of bs = recs-in (length bs / 5) bs
+use Rattle.codes.specs.Code.{code-records}
 
 -- record k among them
 module _ (bs : List ℕ) (k : ℕ) (h : k < length bs / 5) (r : Rec) (is : r ≡ rec-in (row 5 k bs)) where
-  pub record-at : getD (records-of bs) k r ≡ r
+  pub record-at : getD (code-records bs) k r ≡ r
   unfolding recs-in
   record-at =
       getD-default (map rec-in (rows 5 (length bs / 5) bs)) k r (rec-in []) (rw (recs-in-length (length bs / 5) bs) h)
       ∙ List·getD-map rec-in (rows 5 (length bs / 5) bs) k [] ∙ ap rec-in (rows-at 5 (length bs / 5) k bs h) ∙ sym is
 
-  below : k < length (records-of bs)
+  below : k < length (code-records bs)
   below = rw (recs-in-length (length bs / 5) bs) h
 
-  pub record-among : records-of bs ≡ take k (records-of bs) ++ r ∷ drop (suc k) (records-of bs)
+  pub record-among : code-records bs ≡ take k (code-records bs) ++ r ∷ drop (suc k) (code-records bs)
   record-among =
-      split-at (records-of bs) k r below ∙ ap (λ (e : Rec). take k (records-of bs) ++ e ∷ drop (suc k) (records-of bs)) record-at
+      split-at (code-records bs) k r below ∙ ap (λ (e : Rec). take k (code-records bs) ++ e ∷ drop (suc k) (code-records bs)) record-at
 
-  pub records-through : take (k + 1) (records-of bs) ≡ snoc (take k (records-of bs)) r
-  records-through = rw (add-one, take-suc (records-of bs) k r below, record-at)
+  pub records-through : take (k + 1) (code-records bs) ≡ snoc (take k (code-records bs)) r
+  records-through = rw (add-one, take-suc (code-records bs) k r below, record-at)
 
-  pub records-on : drop k (records-of bs) ≡ r ∷ drop (k + 1) (records-of bs)
-  records-on = rw (add-one, drop-cons (records-of bs) k r below, record-at)
+  pub records-on : drop k (code-records bs) ≡ r ∷ drop (k + 1) (code-records bs)
+  records-on = rw (add-one, drop-cons (code-records bs) k r below, record-at)
 
 -- OF AN ACCEPTED CODE
 good-decodes : (rs : List Rec) → Good rs → (devices (decoded rs) ≤ 10) × Simple (decoded rs)
@@ -47,15 +44,15 @@ good-decodes [] g = absurd (omega (arith, g .one))
 good-decodes (r ∷ rs) g = (rows-invariant r rs (g .accepted) .ten, decoded-simple r rs (g .accepted))
 
 module _ (bs : List ℕ) (ok : code-refusal bs ≡ 0) where
-  pub code-good : Good (records-of bs)
-  code-good = good-from-test (records-of bs) (accepted-code bs ok .good)
+  pub code-good : Good (code-records bs)
+  code-good = good-from-test (code-records bs) (accepted-code bs ok .good)
 
-  pub code-ten : devices (decoded (records-of bs)) ≤ 10
-  code-ten = good-decodes (records-of bs) code-good .0
+  pub code-ten : devices (decoded (code-records bs)) ≤ 10
+  code-ten = good-decodes (code-records bs) code-good .0
 
-  pub code-simple : Simple (decoded (records-of bs))
-  code-simple = good-decodes (records-of bs) code-good .1
+  pub code-simple : Simple (decoded (code-records bs))
+  code-simple = good-decodes (code-records bs) code-good .1
 
   pub record-accepted : (k : ℕ) → k < length bs / 5 → (r : Rec) → r ≡ rec-in (row 5 k bs)
-      → rows-refusal fresh (take k (records-of bs) ++ r ∷ drop (suc k) (records-of bs)) ≡ 0
+      → rows-refusal fresh (take k (code-records bs) ++ r ∷ drop (suc k) (code-records bs)) ≡ 0
   record-accepted k h r is = rw (← record-among bs k h r is) (code-good .accepted)

@@ -8,6 +8,8 @@ use lib.Dec.{ltb, eqb}
 use Rattle.codes.specs.BranchState.{State, Open-place, Free, chord-label, edge-label, Chord-found, No-chord, Edge-found, Nothing-found}
 use Rattle.branches.specs.declared.extension.Extension.{Extension}
 use Rattle.branches.specs.declared.extension.Extension.the-variants.{Chord, Edge, None}
+use Rattle.branches.specs.declared.extension.Found.{Found}
+use Rattle.branches.specs.declared.extension.Found.the-variants.{At, Nothing}
 
 -- WHAT IS FOUND, case by case
 abbrev pub Extension-found : List ℕ → State → Extension → Type 0
@@ -16,10 +18,9 @@ Extension-found t b (Edge q l) = Edge-found t b q l
 Extension-found t b None = Nothing-found t b
 
 -- the first chord, or none
-abbrev pub First-chord : List ℕ → State → Extension → Type 0
-First-chord t b (Chord q l) = Chord-found t b q l
-First-chord t b (Edge q l) = ⊥
-First-chord t b None = No-chord t b
+abbrev pub First-chord : List ℕ → State → Found → Type 0
+First-chord t b (At q l) = Chord-found t b q l
+First-chord t b Nothing = No-chord t b
 
 -- the label of the chord to place q, 0 where the place is not open
 pub record Chord-seen (t : List ℕ) (b : State) (q l : ℕ) : Type 0 where

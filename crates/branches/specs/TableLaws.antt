@@ -150,16 +150,21 @@ module _ (d : Drawing) (p : Pattern d) where
 
     pub cable-ends : (c .a < devices d) × (c .b < devices d)
     cable-ends =
-        (p .simple .ends (c .a) (c .b) (c .kind) (there (along refl refl)), p .simple .ends (c .b) (c .a) (c .kind) (there (against refl refl)))
+        let ends = p .simple .ends in
+        (ends (c .a) (c .b) (c .kind) (there (along refl refl)), ends (c .b) (c .a) (c .kind) (there (against refl refl)))
 
     ends-before : (u v l : ℕ) → Has u v l (take k (d .cables)) → v < 10
     ends-before u v l g =
-        omega (arith, p .simple .ends v u l (has-flip (rw whole (has-front (c ∷ drop (suc k) (d .cables)) g))), p .devices-high)
+        let h : Has u v l (d .cables) = rw whole (has-front (c ∷ drop (suc k) (d .cables)) g) in
+        omega (arith, p .simple .ends v u l (has-flip h), p .devices-high)
 
-    pub table-next : (t : List ℕ) → c .kind < 256 → Table (first-cables d k) t → Table (first-cables d (k + 1)) (put-cable t c (kind d (c .a)) (kind d (c .b)))
+    pub table-next :
+        (t : List ℕ) → c .kind < 256 → Table (first-cables d k) t
+        → Table (first-cables d (k + 1)) (put-cable t c (kind d (c .a)) (kind d (c .b)))
     table-next t byte T =
         rw (add-one, take-suc (d .cables) k c h, is)
-        (table-snoc (d .kinds) (take k (d .cables)) c t T (omega (arith, cable-ends .0, p .devices-high)) (omega (arith, cable-ends .1, p .devices-high))
+        (table-snoc (d .kinds) (take k (d .cables)) c t T
+        (omega (arith, cable-ends .0, p .devices-high)) (omega (arith, cable-ends .1, p .devices-high))
         (λ e. p .simple .loopless (c .a) (c .kind) (there (along refl (sym e)))) ends-before
         (distinct-before (take k (d .cables)) c _ (rw whole at (p .simple .distinct))) byte)
 

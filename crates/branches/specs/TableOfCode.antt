@@ -11,40 +11,47 @@ use Rattle.codes.specs.Code.{Rec, rec-in, cable-of, decoded, code-refusal}
 use Rattle.codes.specs.Decoded.{rows-bytes, decoded-pattern, decoded-bytes}
 use Rattle.codes.specs.CodeBytes.{accepted-code}
 use Rattle.codes.specs.BranchState.{Labels}
-use Rattle.branches.specs.CodeRows.{records-of}
+use Rattle.codes.specs.Code.{code-records}
 use Rattle.branches.specs.CodeCables.{code-cables, record-cable, record-i-kind, record-j-kind}
 use Rattle.branches.specs.Tables.{first-cables, Table, put-cable}
 use Rattle.branches.specs.TableLaws.{bytes-list, cable-ends, table-next, table-end}
 
-module _ (bs : List ℕ) (bytes : (i : ℕ) → getD bs i 0 < 256) (ok : code-refusal bs ≡ 0) where
-  pub code-pattern : Pattern (decoded (records-of bs))
+-- an accepted code of bytes
+pub record Byte-code (bs : List ℕ) : Type 0 where
+  pub bytes : (i : ℕ) → getD bs i 0 < 256
+  pub accepted : code-refusal bs ≡ 0
+
+module _ {bs : List ℕ} (A : Byte-code bs) where
+  pub code-pattern : Pattern (decoded (code-records bs))
   unfolding rows-bytes
   code-pattern =
-      let a = accepted-code bs ok in
-      decoded-pattern (records-of bs) (a .good) (decoded-bytes (records-of bs) (rw (a .bytes) (bytes-list bs (λ i h. bytes i))))
+      let a = accepted-code bs (A .accepted) in
+      decoded-pattern (code-records bs) (a .good) (decoded-bytes (code-records bs) (rw (a .bytes) (bytes-list bs (λ i h. A .bytes i))))
 
-  module _ (k : ℕ) (h : k < length bs / 5) (r : Rec) (is : r ≡ rec-in (row 5 k bs)) where
-    below : k < length (decoded (records-of bs) .cables)
+  -- RECORD k of the code
+  module _ (k : ℕ) (h : k < length bs / 5) {r : Rec} (is : r ≡ rec-in (row 5 k bs)) where
+    below : k < length (decoded (code-records bs) .cables)
     below = rw (code-cables bs) h
 
-    ends : (r .i < devices (decoded (records-of bs))) × (r .j < devices (decoded (records-of bs)))
+    ends : (r .i < devices (decoded (code-records bs))) × (r .j < devices (decoded (code-records bs)))
     unfolding cable-of
-    ends = cable-ends (decoded (records-of bs)) code-pattern k (cable-of r) below (record-cable bs k h r is)
+    ends = cable-ends (decoded (code-records bs)) code-pattern k (cable-of r) below (record-cable bs k h r is)
 
     kind-low : r .c < 256
     unfolding rec-in
-    kind-low = rw (is, row-at 5 k bs 3 0 (omega arith)) (bytes (5 * k + 3))
+    kind-low = rw (is, row-at 5 k bs 3 0 (omega arith)) (A .bytes (5 * k + 3))
 
     pub record-low : (r .i < 10) × (r .j < 10) × (r .c < 256)
     record-low = (omega (arith, ends .0, code-pattern .devices-high), omega (arith, ends .1, code-pattern .devices-high), kind-low)
 
     pub code-turn :
-        (t : List ℕ) → Table (first-cables (decoded (records-of bs)) k) t
-        → Table (first-cables (decoded (records-of bs)) (k + 1)) (put-cable t (cable-of r) (r .ki) (r .kj))
+        {t : List ℕ} → Table (first-cables (decoded (code-records bs)) k) t
+        → Table (first-cables (decoded (code-records bs)) (k + 1)) (put-cable t (cable-of r) (r .ki) (r .kj))
     unfolding cable-of
-    code-turn t T =
-        rw (← record-i-kind bs k h r is ok, ← record-j-kind bs k h r is ok)
-        (table-next (decoded (records-of bs)) code-pattern k (cable-of r) below (record-cable bs k h r is) t kind-low T)
+    code-turn {t} T =
+        rw (← record-i-kind bs k h r is (A .accepted), ← record-j-kind bs k h r is (A .accepted))
+        (table-next (decoded (code-records bs)) code-pattern k (cable-of r) below (record-cable bs k h r is) t kind-low T)
 
-  pub code-done : (k : ℕ) (t : List ℕ) → k ≡ length bs / 5 → Table (first-cables (decoded (records-of bs)) k) t → Labels (decoded (records-of bs)) t
-  code-done k t e T = table-end (decoded (records-of bs)) code-pattern k t (e ∙ sym (code-cables bs)) T
+  pub code-done :
+      (k : ℕ) {t : List ℕ} → k ≡ length bs / 5 → Table (first-cables (decoded (code-records bs)) k) t → Labels (decoded (code-records bs)) t
+  code-done k {t} e T = table-end (decoded (code-records bs)) code-pattern k t (e ∙ sym (code-cables bs)) T

@@ -17,16 +17,21 @@ use Rattle.records.specs.CableLaws.{cable-read, before-at}
 use Rattle.branches.specs.Tables.{first-cables, Table, put-cable}
 use Rattle.branches.specs.TableLaws.{bytes-list, cable-ends, table-next, table-end}
 
-pub record-size : (bs : List ℕ) → drawing-refusal bs ≡ 0 → length bs ≡ 72
-record-size bs ok = accepted-parts bs ok .size
+-- an accepted record of bytes
+pub record Byte-record (bs : List ℕ) : Type 0 where
+  pub bytes : (i : ℕ) → getD bs i 0 < 256
+  pub accepted : drawing-refusal bs ≡ 0
 
-module _ (bs : List ℕ) (bytes : (i : ℕ) → getD bs i 0 < 256) (ok : drawing-refusal bs ≡ 0) where
+module _ {bs : List ℕ} (A : Byte-record bs) where
   parts : Accepted-parts bs
-  parts = accepted-parts bs ok
+  parts = accepted-parts bs (A .accepted)
+
+  pub record-size : length bs ≡ 72
+  record-size = parts .size
 
   pub record-pattern : Pattern (drawing-in bs)
   unfolding accepted
-  record-pattern = accepted-pattern bs (and-both (bytes-list bs (λ i h. bytes i)) (eq-eqb _ 0 ok))
+  record-pattern = accepted-pattern bs (and-both (bytes-list bs (λ i h. A .bytes i)) (eq-eqb _ 0 (A .accepted)))
 
   -- the kind of a device is its byte
   kind-byte-is : (v : ℕ) → v < getD bs 0 0 → getD bs (2 + v) 0 ≡ kind (drawing-in bs) v
@@ -36,7 +41,7 @@ module _ (bs : List ℕ) (bytes : (i : ℕ) → getD bs i 0 < 256) (ok : drawing
       ∙ sym (getD-take (getD bs 0 0) (drop 2 bs) v 256 h ∙ getD-drop 2 bs v 256)
 
   -- CABLE c of the record
-  module _ (c : ℕ) (h : c < getD bs 1 0) (x : Cable) (is : x ≡ cable-of bs c) where
+  module _ (c : ℕ) (h : c < getD bs 1 0) {x : Cable} (is : x ≡ cable-of bs c) where
     below : c < length (drawing-in bs .cables)
     below = omega (arith, parts .cable-count)
 
@@ -48,16 +53,16 @@ module _ (bs : List ℕ) (bytes : (i : ℕ) → getD bs i 0 < 256) (ok : drawing
     ends = cable-ends (drawing-in bs) record-pattern c x below there
 
     kind-low : x .kind < 256
-    kind-low = rw (is, ← cable-read bs c) (bytes (12 + 3 * c + 2))
+    kind-low = rw (is, ← cable-read bs c) (A .bytes (12 + 3 * c + 2))
 
     pub cable-low : (x .a < 10) × (x .b < 10) × (x .kind < 256)
     cable-low = (omega (arith, ends .0, record-pattern .devices-high), omega (arith, ends .1, record-pattern .devices-high), kind-low)
 
-    pub drawing-turn : (t : List ℕ) → Table (first-cables (drawing-in bs) c) t
+    pub drawing-turn : {t : List ℕ} → Table (first-cables (drawing-in bs) c) t
         → Table (first-cables (drawing-in bs) (c + 1)) (put-cable t x (getD bs (2 + x .a) 0) (getD bs (2 + x .b) 0))
-    drawing-turn t T =
+    drawing-turn {t} T =
         rw (kind-byte-is (x .a) (rw (← parts .device-count) (ends .0)), kind-byte-is (x .b) (rw (← parts .device-count) (ends .1)))
         (table-next (drawing-in bs) record-pattern c x below there t kind-low T)
 
-  pub drawing-done : (c : ℕ) (t : List ℕ) → c ≡ getD bs 1 0 → Table (first-cables (drawing-in bs) c) t → Labels (drawing-in bs) t
-  drawing-done c t e T = table-end (drawing-in bs) record-pattern c t (e ∙ sym (parts .cable-count)) T
+  pub drawing-done : (c : ℕ) {t : List ℕ} → c ≡ getD bs 1 0 → Table (first-cables (drawing-in bs) c) t → Labels (drawing-in bs) t
+  drawing-done c {t} e T = table-end (drawing-in bs) record-pattern c t (e ∙ sym (parts .cable-count)) T

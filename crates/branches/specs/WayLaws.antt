@@ -8,47 +8,56 @@ use native.Mathlib.Decide.{decLt}
 use Rattle.codes.specs.BranchState.{State, Free, edge-label}
 use Rattle.branches.specs.declared.extension.Extension.{Extension}
 use Rattle.branches.specs.declared.extension.Extension.the-variants.{Chord, Edge, None}
-use Rattle.branches.specs.Ways.{Ties, Next-tie, Next-way}
+use Rattle.branches.specs.Ways.{Ties, Next-way}
 
-module _ (t : List ℕ) (b : State) (q l n : ℕ) where
-  -- no device from n on below w ties
-  abbrev pub No-tie-below : ℕ → Type 0
-  No-tie-below w = (v : ℕ) → n ≤ v → v < w → Ties t b q l v → ⊥
+-- no device from n on below w ties
+abbrev pub No-tie-below : List ℕ → State → (q l n w : ℕ) → Type 0
+No-tie-below t b q l n w = (v : ℕ) → n ≤ v → v < w → Ties t b q l v → ⊥
 
-  pub ties-start : No-tie-below n
-  ties-start v h g = absurd (omega arith)
+pub ties-start : (t : List ℕ) (b : State) (q l n : ℕ) → No-tie-below t b q l n n
+ties-start t b q l n v h g = absurd (omega arith)
 
-  pub ties-next : (w : ℕ) → No-tie-below w → (Ties t b q l w → ⊥) → No-tie-below (w + 1)
-  ties-next w none not v h g s = go (decLt v w)
-    where
-      go : Dec (v < w) → ⊥
-      go (yes k) = none v h k s
-      go (no k) = let z : v ≡ w = omega arith in not (rw z at s)
+pub ties-next :
+    (t : List ℕ) (b : State) (q l n w : ℕ) → No-tie-below t b q l n w → (Ties t b q l w → ⊥) → No-tie-below t b q l n (w + 1)
+ties-next t b q l n w none not v h g s = go (decLt v w)
+  where
+    go : Dec (v < w) → ⊥
+    go (yes k) = none v h k s
+    go (no k) = let z : v ≡ w = omega arith in not (rw z at s)
 
-  pub tie-here : (w : ℕ) → n ≤ w → w < 10 → No-tie-below w → Free b w → edge-label t b q w ≡ l → Next-tie t b q l n w
-  tie-here w h g none f e = record { low = omega arith; rises = λ x. h; ties = λ x. record { free = f; label = e }; first = none }
+module _ {t : List ℕ} {b : State} {q l n : ℕ} where
+  pub tie-here : {w : ℕ} → n ≤ w → w < 10 → No-tie-below t b q l n w → Free b w → edge-label t b q w ≡ l → Next-way t b (Edge q l) n w
+  tie-here h g none f e = record { low = omega arith; rises = λ x. h; way = λ x. record { free = f; label = e }; first = none }
 
-  pub ties-end : (w : ℕ) → 10 ≤ w → No-tie-below w → Next-tie t b q l n 10
+  pub ties-end : (w : ℕ) → 10 ≤ w → No-tie-below t b q l n w → Next-way t b (Edge q l) n 10
   ties-end w h none =
-      record { low = omega arith; rises = λ x. absurd (omega arith); ties = λ x. absurd (omega arith); first = λ v g k. none v g (omega arith) }
+      record {
+        low = omega arith;
+        rises = λ x. absurd (omega arith);
+        way = λ x. absurd (omega arith);
+        first = λ v g k. none v g (omega arith);
+      }
 
 -- THE WAYS, case by case
-module _ (t : List ℕ) (b : State) (q l : ℕ) where
+module _ {t : List ℕ} {b : State} {q l : ℕ} where
   pub chord-way : Next-way t b (Chord q l) 0 0
   chord-way = record { low = omega arith; rises = λ x. omega arith; way = λ h. refl; first = λ w h g. absurd (not-suc-le-zero g) }
 
-  pub chord-ways-end : (n : ℕ) → (n ≡ 0 → ⊥) → Next-way t b (Chord q l) n 10
-  chord-ways-end n z = record { low = omega arith; rises = λ x. absurd (omega arith); way = λ g. absurd (omega arith); first = λ w g k e. z (omega arith) }
+  pub chord-ways-end : {n : ℕ} → (n ≡ 0 → ⊥) → Next-way t b (Chord q l) n 10
+  chord-ways-end z =
+      record {
+        low = omega arith;
+        rises = λ x. absurd (omega arith);
+        way = λ g. absurd (omega arith);
+        first = λ w g k e. z (omega arith);
+      }
 
-  pub edge-way : (n r : ℕ) → Next-tie t b q l n r → Next-way t b (Edge q l) n r
-  edge-way n r k = record { low = k .low; rises = k .rises; way = k .ties; first = k .first }
-
-pub nothing-ways : (t : List ℕ) (b : State) (n : ℕ) → Next-way t b None n 10
-nothing-ways t b n = record { low = omega arith; rises = λ x. absurd (omega arith); way = λ g. absurd (omega arith); first = λ w g k e. e }
+pub nothing-ways : {t : List ℕ} {b : State} {n : ℕ} → Next-way t b None n 10
+nothing-ways = record { low = omega arith; rises = λ x. absurd (omega arith); way = λ g. absurd (omega arith); first = λ w g k e. e }
 
 -- a way from behind w on leaves fewer
-pub way-later : (t : List ℕ) (b : State) (s : Extension) (n r w : ℕ) → Next-way t b s n r → w < n → w < 10 → 10 - r < 10 - w
-way-later t b s n r w k h g = go (decLt r 10)
+pub way-later : {t : List ℕ} {b : State} {s : Extension} {n r : ℕ} → Next-way t b s n r → (w : ℕ) → w < n → w < 10 → 10 - r < 10 - w
+way-later {r = r} k w h g = go (decLt r 10)
   where
     go : Dec (r < 10) → 10 - r < 10 - w
     go (yes l) = omega (arith, k .rises l)

@@ -1,6 +1,7 @@
 // The least record that goes on from a branch: a backward one to the lowest place that has a cable, else a forward one
 // from the deepest place that has one, along its least label.
 use crate::branch::Branch;
+use crate::table::CELLS;
 use crate::table::label;
 use records::drawing::Drawing;
 ghost use mathlib.Core.Path.{_≡_};
@@ -17,8 +18,14 @@ pub enum Extension {
     None,
 }
 
+// A place of the path with a label, or nothing.
+enum Found {
+    At(usize, u32),
+    Nothing,
+}
+
 // The label from the path's end to place q, where a backward step may go there; elsewhere 0, as if no cable were there.
-fn chord_label(table: &[u32; 100], branch: Branch, q: usize) -> u32
+fn chord_label(table: &[u32; CELLS], branch: Branch, q: usize) -> u32
     requires { ⌜ Bounds (state-of branch) × (q < branch .count) ⌝ }
     ensures { λ r. ⌜ Chord-seen (now (table .entry)) (state-of branch) q r ⌝ }
 {
@@ -32,18 +39,18 @@ fn chord_label(table: &[u32; 100], branch: Branch, q: usize) -> u32
 }
 
 // The lowest place that has a chord: backward records rise by the device that they go to.
-fn first_chord(table: &[u32; 100], branch: Branch) -> Extension
+fn first_chord(table: &[u32; CELLS], branch: Branch) -> Found
     requires { ⌜ Bounds (state-of branch) ⌝ }
     ensures { λ r. ⌜ First-chord (now (table .entry)) (state-of branch) r ⌝ }
 {
     let n = branch.count;
     for q in 0..n {
-        let seen = chord_label(table, branch, q);
-        if seen != 0 {
-            return Extension::Chord(q, seen);
+        let l = chord_label(table, branch, q);
+        if l != 0 {
+            return Found::At(q, l);
         }
     }
-    Extension::None
+    Found::Nothing
 }
 
 // The lesser of two labels, of which 0 is none.
@@ -60,7 +67,7 @@ fn lesser(a: u32, b: u32) -> u32
 }
 
 // The least label from place q to a device that has no number, or 0.
-fn least_edge(table: &[u32; 100], branch: Branch, q: usize) -> u32
+fn least_edge(table: &[u32; CELLS], branch: Branch, q: usize) -> u32
     requires { ⌜ Bounds (state-of branch) × (q < branch .count) ⌝ }
     ensures { λ r. ⌜ Least-edge (now (table .entry)) (state-of branch) q 10 r ⌝ }
 {
@@ -75,7 +82,7 @@ fn least_edge(table: &[u32; 100], branch: Branch, q: usize) -> u32
 }
 
 // Where there is no chord, the deepest place that has an edge: forward records fall by the device that they come from.
-fn deepest_edge(table: &[u32; 100], branch: Branch) -> Extension
+fn deepest_edge(table: &[u32; CELLS], branch: Branch) -> Extension
     requires { ⌜ Bounds (state-of branch) × No-chord (now table) (state-of branch) ⌝ }
     ensures { λ r. ⌜ Extension-found (now (table .entry)) (state-of branch) r ⌝ }
 {
@@ -92,13 +99,12 @@ fn deepest_edge(table: &[u32; 100], branch: Branch) -> Extension
 }
 
 // The least record that goes on from a branch.
-pub fn least_extension(table: &[u32; 100], branch: Branch) -> Extension
+pub fn least_extension(table: &[u32; CELLS], branch: Branch) -> Extension
     requires { ⌜ Bounds (state-of branch) ⌝ }
     ensures { λ r. ⌜ Extension-found (now (table .entry)) (state-of branch) r ⌝ }
 {
     match first_chord(table, branch) {
-        Extension::Chord(q, seen) => Extension::Chord(q, seen),
-        Extension::Edge(_, _) => Extension::None,
-        Extension::None => deepest_edge(table, branch),
+        Found::At(q, l) => Extension::Chord(q, l),
+        Found::Nothing => deepest_edge(table, branch),
     }
 }

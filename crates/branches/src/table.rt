@@ -6,15 +6,21 @@ use records::code::Code;
 use records::drawing::Drawing;
 ghost use mathlib.Core.Path.{_≡_};
 ghost use Prim.Native.Nat.{_-_, _/_, _%_, _<_, _≤_};
-ghost use lib.ListN.{length};
 ghost use Rattle.graphs.specs.Drawing.{drawing-in, drawing-refusal};
-ghost use Rattle.codes.specs.Code.{recs-in, decoded, code-refusal};
+ghost use Rattle.codes.specs.Code.{decoded, code-refusal};
 ghost use Rattle.codes.specs.BranchState.{label-at, Labels};
 ghost use Rattle.records.specs.Cables.{as-cable};
+ghost use Rattle.codes.specs.Code.{code-records};
 ghost use Rattle.branches.specs.Tables.{put-cable};
 
+// Ten rows of ten labels: one for each pair of devices.
+pub const CELLS: usize = 100;
+
+// Kinds are bytes.
+const KINDS: u32 = 256;
+
 // The label of the cable from device u to device v.
-pub fn label(table: &[u32; 100], u: usize, v: usize) -> u32
+pub fn label(table: &[u32; CELLS], u: usize, v: usize) -> u32
     requires { ⌜ (u < 10) × (v < 10) ⌝ }
     ensures { λ r. ⌜ r ≡ label-at (now (table .entry)) u v ⌝ }
 {
@@ -26,7 +32,7 @@ pub fn cable_kind(l: u32) -> u8
     requires { ⌜ (0 < l) × (l ≤ 65536) ⌝ }
     ensures { λ r. ⌜ r ≡ (l - 1) / 256 ⌝ }
 {
-    ((l - 1) / 256) as u8
+    ((l - 1) / KINDS) as u8
 }
 
 // The kind of the device at the cable's other end.
@@ -34,27 +40,27 @@ pub fn other_kind(l: u32) -> u8
     requires { ⌜ 0 < l ⌝ }
     ensures { λ r. ⌜ r ≡ (l - 1) % 256 ⌝ }
 {
-    ((l - 1) % 256) as u8
+    ((l - 1) % KINDS) as u8
 }
 
 // Puts a cable into a table both ways round; ka and kb are the kinds of its ends.
-fn put_cable(table: &mut [u32; 100], cable: Cable, ka: u8, kb: u8)
+fn put_cable(table: &mut [u32; CELLS], cable: Cable, ka: u8, kb: u8)
     requires { ⌜ (cable .a < 10) × (cable .b < 10) × (cable .kind < 256) ⌝ }
     ensures { λ _. ⌜ now (table .exit) ≡ put-cable (now (table .entry)) (as-cable cable) ka kb ⌝ }
 {
     let a = cable.a;
     let b = cable.b;
-    let kind = 256 * (cable.kind as u32);
+    let kind = KINDS * (cable.kind as u32);
     table[Drawing::MOST_DEVICES * a + b] = 1 + (kind + kb as u32);
     table[Drawing::MOST_DEVICES * b + a] = 1 + (kind + ka as u32);
 }
 
 // The labels of an accepted drawing record.
-pub fn labels_of_drawing(drawing: &[u8]) -> [u32; 100]
+pub fn labels_of_drawing(drawing: &[u8]) -> [u32; CELLS]
     requires { ⌜ drawing-refusal (now drawing) ≡ 0 ⌝ }
     ensures { λ r. ⌜ Labels (drawing-in (now (drawing .entry))) r ⌝ }
 {
-    let mut table = [0; 100];
+    let mut table = [0; CELLS];
     let m = Drawing::counted(drawing).cables;
     for c in 0..m {
         let cable = Cable::at(drawing, c);
@@ -71,11 +77,11 @@ pub fn labels_of_drawing(drawing: &[u8]) -> [u32; 100]
 }
 
 // The labels of what an accepted code describes. Each record tells the kinds of both its ends.
-pub fn labels_of_code(code: &[u8]) -> [u32; 100]
+pub fn labels_of_code(code: &[u8]) -> [u32; CELLS]
     requires { ⌜ code-refusal (now code) ≡ 0 ⌝ }
-    ensures { λ r. ⌜ Labels (decoded (recs-in (length (now (code .entry)) / 5) (now (code .entry)))) r ⌝ }
+    ensures { λ r. ⌜ Labels (decoded (code-records (now (code .entry)))) r ⌝ }
 {
-    let mut table = [0; 100];
+    let mut table = [0; CELLS];
     for k in 0..code.len() / Code::RECORD_BYTES {
         let r = Record::at(code, k);
         let cable = Cable {

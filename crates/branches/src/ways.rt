@@ -4,6 +4,7 @@
 use crate::branch::Branch;
 use crate::extension::Extension;
 use crate::record::Record;
+use crate::table::CELLS;
 use crate::table::cable_kind;
 use crate::table::label;
 use crate::table::other_kind;
@@ -13,7 +14,7 @@ ghost use Prim.Native.Nat.{_<_, _≤_};
 ghost use Rattle.codes.specs.BranchBounds.{Bounds};
 ghost use Rattle.branches.specs.Records.{as-rec};
 ghost use Rattle.branches.specs.Branches.{state-of};
-ghost use Rattle.branches.specs.Ways.{chord-with, edge-with, Next-tie, Next-way, Can-find, Can-follow, followed};
+ghost use Rattle.branches.specs.Ways.{chord-with, edge-with, Next-way, Can-find, Can-follow, followed};
 
 // The backward record to place q along a label. The kind of the path's end, ki, is the caller's to know.
 pub fn chord_record(branch: Branch, q: usize, l: u32, ki: u8) -> Record
@@ -45,9 +46,9 @@ pub fn edge_record(branch: Branch, q: usize, l: u32, ki: u8) -> Record
 }
 
 // The first device from `from` on that has no number and the label l at place q; ten if there is none.
-fn next_tie(table: &[u32; 100], branch: Branch, q: usize, l: u32, from: usize) -> usize
+fn next_tie(table: &[u32; CELLS], branch: Branch, q: usize, l: u32, from: usize) -> usize
     requires { ⌜ Bounds (state-of branch) × (q < branch .count) ⌝ }
-    ensures { λ r. ⌜ Next-tie (now (table .entry)) (state-of branch) q l from r ⌝ }
+    ensures { λ r. ⌜ Next-way (now (table .entry)) (state-of branch) (Extension.Edge q l) from r ⌝ }
 {
     let device = branch.device(q);
     for w in from..Drawing::MOST_DEVICES {
@@ -61,7 +62,7 @@ fn next_tie(table: &[u32; 100], branch: Branch, q: usize, l: u32, from: usize) -
 }
 
 // The first way from `from` on; ten if there is none.
-pub fn next_way(table: &[u32; 100], branch: Branch, step: Extension, from: usize) -> usize
+pub fn next_way(table: &[u32; CELLS], branch: Branch, step: Extension, from: usize) -> usize
     requires { ⌜ Can-find (state-of branch) step ⌝ }
     ensures { λ r. ⌜ Next-way (now (table .entry)) (state-of branch) step from r ⌝ }
 {

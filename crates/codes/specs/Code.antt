@@ -24,6 +24,10 @@ rec-in bs = record { i = getD bs 0 0; j = getD bs 1 0; ki = getD bs 2 0; c = get
 unfoldable pub recs-in : (n : ℕ) → List ℕ → List Rec
 recs-in n bs = map rec-in (rows 5 n bs)
 
+-- the records of a code's bytes
+abbrev pub code-records : List ℕ → List Rec
+code-records bs = recs-in (length bs / 5) bs
+
 unfoldable pub rec-bytes : List Rec → List ℕ
 rec-bytes [] = []
 rec-bytes (r ∷ rs) = r .i ∷ r .j ∷ r .ki ∷ r .c ∷ r .kj ∷ rec-bytes rs
@@ -109,7 +113,7 @@ rows-good rs = (leb 1 (length rs) && leb (length rs) 20) && eqb (rows-refusal fr
 -- 9 zero, over 100, or no multiple of 5; then each record
 unfoldable pub code-refusal : List ℕ → ℕ
 code-refusal bs =
-    cond (eqb (length bs) 0 || (ltb 100 (length bs) || not (eqb (length bs % 5) 0))) 9 (rows-refusal fresh (recs-in (length bs / 5) bs))
+    cond (eqb (length bs) 0 || (ltb 100 (length bs) || not (eqb (length bs % 5) 0))) 9 (rows-refusal fresh (code-records bs))
 
 -- what a reading has read so far
 abbrev pub drawn : Reading → Drawing

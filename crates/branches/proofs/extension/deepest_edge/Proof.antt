@@ -1,7 +1,7 @@
 -- `extension::deepest_edge` meets its contract. The invariant: no edge starts from the places left behind. Assumes
 -- nothing.
 use mathlib.Core.Path.{_≡_}
-use Prim.Native.Nat.{_≤_, _-_}
+use Prim.Native.Nat.{_≤_}
 use native.Mathlib.Omega.{arith}
 use borrow.Author.Needs.{needs}
 use Rattle.branches.specs.Branches.{state-of}
@@ -28,22 +28,21 @@ returns : tie.Need-returns Inv-loop μ-loop
 returns c =
     let s = c .before .before .before .before in
     let l = c .before .before .before .loop in
-    edge-here (s .args .table .now) (state-of (s .args .branch)) (l .above) (l .above - 1) (c .before .least-edge .result) (omega arith) (omega arith) (s .pre .1) (l .inv .1) (c .before .least-edge .ensures) (omega arith)
+    edge-here (c .before .least-edge .ensures) (l .above) (omega arith) (l .inv .1) (omega arith) (s .pre .1) (omega arith)
 
 loop-less : tie.Need-loop-less Inv-loop μ-loop
 loop-less c = search needs
 
 loop-again : tie.Need-loop-again Inv-loop μ-loop
 loop-again c =
-    let s = c .before .before .before .before in
     let l = c .before .before .before .loop in
-    (search needs, places-next (s .args .table .now) (state-of (s .args .branch)) (l .above) (l .above - 1) (c .before .least-edge .result) (omega arith) (l .inv .1) (c .before .least-edge .ensures) (omega arith))
+    (search needs, places-next (c .before .least-edge .ensures) (l .above) (omega arith) (l .inv .1) (omega arith))
 
 returns-2 : tie.Need-returns-2 Inv-loop μ-loop
 returns-2 c =
     let s = c .before .before in
     let e : c .before .loop .above ≡ 0 = omega arith in
-    edges-end (s .args .table .now) (state-of (s .args .branch)) (s .pre .1) (rw e at (c .before .loop .inv .1))
+    edges-end (s .pre .1) (rw e at (c .before .loop .inv .1))
 
 pub deepest-edge-spec : {M : Type 1} → statement M
 deepest-edge-spec =

@@ -22,9 +22,7 @@ chord-label-requires c κs = search needs
 
 returns : tie.Need-returns Inv-loop μ-loop
 returns c =
-    let s = c .before .before .before .before in
-    let l = c .before .before .before .loop in
-    chord-here (s .args .table .now) (state-of (s .args .branch)) (l .q) (c .before .chord-label .result) (l .inv .1) (c .before .chord-label .ensures) (omega arith)
+    chord-here (c .before .before .before .loop .inv .1) (c .before .chord-label .ensures) (omega arith)
 
 add-q : tie.Need-add-q Inv-loop μ-loop
 add-q c = search needs
@@ -34,9 +32,7 @@ loop-less c = search needs
 
 loop-again : tie.Need-loop-again Inv-loop μ-loop
 loop-again c =
-    let s = c .before .before .before .before in
-    let l = c .before .before .before .loop in
-    (search needs, chords-next (s .args .table .now) (state-of (s .args .branch)) (l .q) (c .before .chord-label .result) (l .inv .1) (c .before .chord-label .ensures) (omega arith))
+    (search needs, chords-next (c .before .before .before .loop .inv .1) (c .before .chord-label .ensures) (omega arith))
 
 returns-2 : tie.Need-returns-2 Inv-loop μ-loop
 returns-2 c =

@@ -23,7 +23,7 @@ device-requires : tie.Need-device-requires Inv-loop μ-loop
 device-requires c κs = c .pre
 
 loop-holds : tie.Need-loop-holds Inv-loop μ-loop
-loop-holds c = (search needs, edges-start (c .before .args .table .now) (state-of (c .before .args .t2)) (c .before .args .q))
+loop-holds c = (search needs, edges-start)
 
 element-copy-out-if1 : tie.Need-element-copy-out-if1 Inv-loop μ-loop
 element-copy-out-if1 c = search needs
@@ -50,8 +50,8 @@ loop-again c =
       ⊎-elim
           (λ w.
           rw (w .3, w .2 .ensures, w .1 .ensures, c .before .before .before .before .device .ensures .0)
-          (edges-free (s .args .table .now) b (s .args .q) (l .w) (l .least) (l .inv .1) (marked-free b (l .w) (omega arith) ten _ (not-true _ (w .0 .taken)))))
-          (λ w. rw (w .1) (edges-used (s .args .table .now) b (s .args .q) (l .w) (l .least) (l .inv .1) (marked-used b (l .w) (omega arith) ten _ (not-false _ (w .0 .left)))))
+          (edges-free (l .inv .1) (marked-free b (l .w) (omega arith) ten _ (not-true _ (w .0 .taken)))))
+          (λ w. rw (w .1) (edges-used (l .inv .1) (marked-used b (l .w) (omega arith) ten _ (not-false _ (w .0 .left)))))
           (c .if1 .came),
     )
 

@@ -13,30 +13,16 @@ enum-known-q c = search needs
 enum-told : tie.Need-enum-told
 enum-told c = search needs
 
-enum-told-2 : tie.Need-enum-told-2
-enum-told-2 c = search needs
-
 deepest-edge-requires : tie.Need-deepest-edge-requires
-deepest-edge-requires c κs = (search needs, rw (c .enum-told2 .given .1) at (c .before .before .first-chord .ensures))
+deepest-edge-requires c κs = (search needs, rw (c .enum-told .given .1) at (c .before .before .first-chord .ensures))
 
 returns : tie.Need-returns
 returns c = rw (c .before .q .given .1) at (c .before .before .before .first-chord .ensures)
 
 returns-2 : tie.Need-returns-2
-returns-2 c = absurd (rw (c .enum-told .given .1) at (c .before .before .first-chord .ensures))
-
-returns-3 : tie.Need-returns-3
-returns-3 c = search needs
+returns-2 c = search needs
 
 pub least-extension-spec : {M : Type 1} → statement M
 least-extension-spec =
     tie.close
-    (tie.spec
-    first-chord-requires
-    enum-known-q
-    enum-told
-    enum-told-2
-    deepest-edge-requires
-    returns
-    returns-2
-    returns-3)
+    (tie.spec first-chord-requires enum-known-q enum-told deepest-edge-requires returns returns-2)

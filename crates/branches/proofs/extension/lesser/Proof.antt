@@ -4,16 +4,16 @@ use Rattle.branches.proofs.extension.lesser.Statement.{statement}
 use Rattle.branches.proofs.extension.lesser.Tie as tie
 
 returns : tie.Need-returns
-returns c = lesser-second (c .before .args .a) (c .before .args .b) (c .if1 .taken)
+returns c = lesser-second _ _ (c .if1 .taken)
 
 returns-2 : tie.Need-returns-2
-returns-2 c = lesser-first (c .before .before .args .a) (c .before .before .args .b) (c .before .if1 .left) (c .if2 .taken)
+returns-2 c = lesser-first _ _ (c .before .if1 .left) (c .if2 .taken)
 
 returns-3 : tie.Need-returns-3
-returns-3 c = lesser-lower (c .before .before .before .args .a) (c .before .before .before .args .b) (c .before .before .if1 .left) (c .before .if2 .left) (c .if3 .taken)
+returns-3 c = lesser-lower _ _ (c .before .before .if1 .left) (c .before .if2 .left) (c .if3 .taken)
 
 returns-4 : tie.Need-returns-4
-returns-4 c = lesser-higher (c .before .before .before .args .a) (c .before .before .before .args .b) (c .before .before .if1 .left) (c .before .if2 .left) (c .if3 .left)
+returns-4 c = lesser-higher _ _ (c .before .before .if1 .left) (c .before .if2 .left) (c .if3 .left)
 
 pub lesser-spec : {M : Type 1} → statement M
 lesser-spec = tie.close (tie.spec returns returns-2 returns-3 returns-4)

@@ -1,30 +1,31 @@
 -- `table::labels_of_code` meets its contract. The invariant: the table is that of the first k records' cables.
 -- Assumes nothing.
 use mathlib.Core.Path.{_≡_}
-use Prim.Native.Nat.{ℕ, _≤_, _<_, _-_, _/_}
+use Prim.Native.Nat.{_≤_, _-_, _/_}
 use native.Mathlib.Omega.{arith}
-use lib.ListN.{length, getD}
+use lib.ListN.{length}
 use borrow.Author.Needs.{needs}
-use Rattle.codes.specs.Code.{recs-in, cable-of, decoded}
-use Rattle.branches.specs.Records.{as-rec}
+use Rattle.codes.specs.Code.{cable-of, decoded}
+use Rattle.codes.specs.Code.{code-records}
 use Rattle.branches.specs.Tables.{first-cables, Table}
 use Rattle.branches.specs.TableLaws.{table-start}
-use Rattle.branches.specs.TableOfCode.{code-pattern, record-low, code-turn, code-done}
+use Rattle.branches.specs.TableOfCode.{Byte-code, code-pattern, record-low, code-turn, code-done}
 use Rattle.branches.proofs.table.labels_of_code.Statement.{statement}
 use Rattle.branches.proofs.table.labels_of_code.Tie as tie
 
 abbrev Inv-loop : tie.InvT-loop
-Inv-loop code table₀ k₀ k-end table k = (k ≤ k-end) × (k-end ≡ length code / 5) × Table (first-cables (decoded (recs-in (length code / 5) code)) k) table
+Inv-loop code table₀ k₀ k-end table k =
+    (k ≤ k-end) × (k-end ≡ length code / 5) × Table (first-cables (decoded (code-records code)) k) table
 
 abbrev μ-loop : tie.MeasureT-loop
 μ-loop code table₀ k₀ k-end table k = k-end - k
 
--- each byte of the code is one
-bytes : (c : tie.After-shared-slice-known Inv-loop μ-loop) (i : ℕ) → getD (c .before .args .code .now) i 0 < 256
-bytes c i = omega (arith, c .shared-slice-known .given i)
+-- what is known of the code
+known : (c : tie.After-shared-slice-known Inv-loop μ-loop) → Byte-code (c .before .args .code .now)
+known c = record { bytes = λ i. omega (arith, c .shared-slice-known .given i); accepted = c .before .pre }
 
 loop-holds : tie.Need-loop-holds Inv-loop μ-loop
-loop-holds c = (search needs, search needs, table-start _ (code-pattern (c .before .args .code .now) (bytes c) (c .before .pre)))
+loop-holds c = (search needs, search needs, table-start _ (code-pattern (known c)))
 
 at-requires : tie.Need-at-requires Inv-loop μ-loop
 at-requires c κs = search needs
@@ -41,9 +42,7 @@ cast-t11 c = search needs
 put-cable-requires : tie.Need-put-cable-requires Inv-loop μ-loop
 put-cable-requires c κs =
     let a = c .before .before .before .before in
-    let k = a .before .before .before in
-    let l = a .before .before .loop in
-    record-low (k .before .args .code .now) (bytes k) (k .before .pre) (l .k) (omega arith) (as-rec (a .at .result)) (a .at .ensures)
+    record-low (known (a .before .before .before)) (a .before .before .loop .k) (omega arith) (a .at .ensures)
 
 add-k : tie.Need-add-k Inv-loop μ-loop
 add-k c = search needs
@@ -53,20 +52,18 @@ loop-less c = search needs
 
 loop-again : tie.Need-loop-again Inv-loop μ-loop
 unfolding cable-of
-loop-again c = (
-  search needs,
-  search needs,
-  let a = c .before .before .before .before .before in
-      let k = a .before .before .before in
-      let l = a .before .before .loop in
-      rw (c .put-cable .ensures) (code-turn (k .before .args .code .now) (bytes k) (k .before .pre) (l .k) (omega arith) (as-rec (a .at .result)) (a .at .ensures) (l .table) (l .inv .2)),
-)
+loop-again c =
+    let a = c .before .before .before .before .before in
+    let l = a .before .before .loop in (
+      search needs,
+      search needs,
+      rw (c .put-cable .ensures) (code-turn (known (a .before .before .before)) (l .k) (omega arith) (a .at .ensures) (l .inv .2)),
+    )
 
 returns : tie.Need-returns Inv-loop μ-loop
 returns c =
-    let k = c .before .before in
     let l = c .before .loop in
-    code-done (k .before .args .code .now) (bytes k) (k .before .pre) (l .k) (l .table) (omega arith) (l .inv .2)
+    code-done (known (c .before .before)) (l .k) (omega arith) (l .inv .2)
 
 pub labels-of-code-spec : {M : Type 1} → statement M
 labels-of-code-spec =

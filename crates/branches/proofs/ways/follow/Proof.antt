@@ -25,7 +25,7 @@ returns-2 : tie.Need-returns-2
 returns-2 c = rw (c .before .before .step2 .given .1) (c .with-edge .ensures)
 
 returns-3 : tie.Need-returns-3
-returns-3 c = absurd (rw (c .enum-told .given .1) at (c .before .before .pre))
+returns-3 c = rw (c .enum-told .given .1)
 
 pub follow-spec : {M : Type 1} → statement M
 follow-spec =

@@ -37,7 +37,7 @@ returns c =
     let s = c .before .before .before .before .before .before .before in
     let l = c .before .before .before .before .before .loop in
     let ten : length (s .args .t2 .used) ≡ 10 = search needs in
-    tie-here (s .args .table .now) (state-of (s .args .t2)) (s .args .q) (s .args .l) (s .args .from) (l .w) (l .inv .0) (omega arith) (l .inv .1)
+    tie-here (l .inv .0) (omega arith) (l .inv .1)
     (marked-free (state-of (s .args .t2)) (l .w) (omega arith) ten _ (not-true _ (c .before .before .if1 .taken)))
     (rw (← c .before .before .before .before .before .before .device .ensures .0) (sym (c .before .label .ensures) ∙ c .if2 .taken))
 
@@ -63,9 +63,7 @@ loop-again c =
 
 returns-2 : tie.Need-returns-2 Inv-loop μ-loop
 returns-2 c =
-    let s = c .before .before .before in
-    let l = c .before .loop in
-    ties-end (s .args .table .now) (state-of (s .args .t2)) (s .args .q) (s .args .l) (s .args .from) (l .w) (c .loop-test .left) (l .inv .1)
+    ties-end (c .before .loop .w) (c .loop-test .left) (c .before .loop .inv .1)
 
 pub next-tie-spec : {M : Type 1} → statement M
 next-tie-spec =

@@ -1,6 +1,6 @@
 -- `ways::next_way` meets its contract, case by case. Assumes nothing.
 use borrow.Author.Needs.{needs}
-use Rattle.branches.specs.WayLaws.{chord-way, chord-ways-end, edge-way, nothing-ways}
+use Rattle.branches.specs.WayLaws.{chord-way, chord-ways-end, nothing-ways}
 use Rattle.branches.proofs.ways.next_way.Statement.{statement}
 use Rattle.branches.proofs.ways.next_way.Tie as tie
 
@@ -17,16 +17,16 @@ enum-told-2 : tie.Need-enum-told-2
 enum-told-2 c = search needs
 
 returns : tie.Need-returns
-returns c = rw (c .before .enum-told .given .1, c .if1 .taken) (chord-way _ _ _ _)
+returns c = rw (c .before .enum-told .given .1, c .if1 .taken) chord-way
 
 returns-2 : tie.Need-returns-2
-returns-2 c = rw (c .before .enum-told .given .1) (chord-ways-end _ _ _ _ _ (c .if1 .left))
+returns-2 c = rw (c .before .enum-told .given .1) (chord-ways-end (c .if1 .left))
 
 returns-3 : tie.Need-returns-3
-returns-3 c = rw (c .before .before .step .given .1) (edge-way _ _ _ _ _ _ (c .next-tie .ensures))
+returns-3 c = rw (c .before .before .step .given .1) (c .next-tie .ensures)
 
 returns-4 : tie.Need-returns-4
-returns-4 c = rw (c .enum-told2 .given .1) (nothing-ways _ _ _)
+returns-4 c = rw (c .enum-told2 .given .1) nothing-ways
 
 pub next-way-spec : {M : Type 1} → statement M
 next-way-spec =

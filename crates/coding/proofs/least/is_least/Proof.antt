@@ -1,0 +1,67 @@
+-- `least::is_least` meets its contract: an accepted code is least exactly if no start comes before it. Assumes
+-- nothing.
+use mathlib.Core.Path.{_≡_, refl, sym, _∙_}
+use mathlib.Core.Logic.{inl, inr}
+use native.Mathlib.Omega.{arith}
+use borrow.Author.Needs.{needs}
+use Rattle.codes.specs.CodeBytes.{accepted-code}
+use Rattle.records.specs.declared.refusal.Checked.the-variants.{Accepted}
+use Rattle.coding.specs.Readings.{code-checked}
+use Rattle.coding.specs.CheckLaws.{checked-accepted}
+use Rattle.branches.specs.TableOfCode.{Byte-code, code-pattern}
+use Rattle.coding.specs.LeastStarts.{some-not-least, none-least}
+use Rattle.coding.proofs.least.is_least.Statement.{statement}
+use Rattle.coding.proofs.least.is_least.Tie as tie
+
+-- the code is accepted
+accepted : (c : tie.After-enum-told) → code-checked (c .before .before .before .before .args .code .now) ≡ Accepted
+accepted c = sym (c .before .before .check-code .ensures) ∙ c .enum-told .given .1
+
+known : (c : tie.After-enum-told) → Byte-code (c .before .before .before .before .args .code .now)
+known c =
+    record {
+      bytes = λ i. omega (arith, c .before .before .before .shared-slice-known .given i);
+      accepted = checked-accepted (c .before .before .before .before .args .code .now) (accepted c);
+    }
+
+check-code-requires : tie.Need-check-code-requires
+check-code-requires c κs = search needs
+
+enum-known-r : tie.Need-enum-known-r
+enum-known-r c = search needs
+
+returns : tie.Need-returns
+returns c = rw (sym (c .before .before .before .check-code .ensures) ∙ c .before .r .given .1)
+
+enum-told : tie.Need-enum-told
+enum-told c = search needs
+
+labels-of-code-requires : tie.Need-labels-of-code-requires
+labels-of-code-requires c κs = known c .accepted
+
+some-start-better-requires : tie.Need-some-start-better-requires
+some-start-better-requires c κs = record { accepted = known (c .before .before) .accepted; labels = c .before .labels-of-code .ensures }
+
+returns-2 : tie.Need-returns-2
+returns-2 c =
+    let k = c .before .before .before .before in
+    rw (accepted k) (inr (refl, some-not-least _ (code-pattern (known k)) (c .before .some-start-better .ensures .holds (c .if1 .taken))))
+
+returns-3 : tie.Need-returns-3
+returns-3 c =
+    let k = c .before .before .before .before in
+    let good = accepted-code _ (known k .accepted) .good in
+    rw (accepted k) (inl (refl, none-least _ good (code-pattern (known k)) (c .before .some-start-better .ensures .fails (c .if1 .left))))
+
+pub is-least-spec : {M : Type 1} → statement M
+is-least-spec =
+    tie.close
+    (tie.spec
+    check-code-requires
+    enum-known-r
+    returns
+    enum-told
+    labels-of-code-requires
+    some-start-better-requires
+    returns-2
+    returns-3)

@@ -1,0 +1,92 @@
+-- The rightmost path as an array from device 0 on, read from its end down. Assumes nothing.
+use mathlib.Core.Path.{_≡_, refl, ap, ap₂, _∙_}
+use mathlib.Core.Bool.{true, false}
+use mathlib.Core.List.{List, [], _∷_}
+use Prim.Native.Nat.{ℕ, zero, suc, _+_, _-_, _≤_, _<_}
+use native.Mathlib.Omega.{arith}
+use lib.ListN.{length, getD, set, length-set}
+use lib.Seq.{getD-set-same, getD-set-other}
+use borrow.Author.Tests.{eq-eqb, ne-eqb}
+use Rattle.laws.specs.Lists.{Mem}
+use Rattle.graphs.specs.Drawing.{member}
+use Rattle.graphs.specs.Cables.{mem-to-test}
+use Rattle.codes.specs.Code.{end, second, cut-to}
+use Rattle.codes.specs.Step.{Falling, cut-within}
+use Rattle.codes.specs.BranchState.{descending}
+use Rattle.coding.specs.Readings.{Path-place}
+
+pub descending-length : (n : ℕ) (ps : List ℕ) → length (descending n ps) ≡ n
+unfolding descending
+descending-length zero ps = refl
+descending-length (suc n) ps = ap suc (descending-length n ps)
+
+-- a store past the first n changes nothing of them
+pub descending-set : (n : ℕ) (ps : List ℕ) (k v : ℕ) → n ≤ k → descending n (set ps k v) ≡ descending n ps
+unfolding descending
+descending-set zero ps k v h = refl
+descending-set (suc n) ps k v h =
+    ap₂ {C = List ℕ} (λ x xs. x ∷ xs) (getD-set-other ps k n v 0 (λ e. omega arith)) (descending-set n ps k v (omega arith))
+
+-- two stores, one after another, are its new end
+pub descending-store :
+    (ps : List ℕ) (q v w : ℕ) → q + 1 < length ps → descending (q + 2) (set (set ps q v) (q + 1) w) ≡ w ∷ v ∷ descending q ps
+unfolding descending
+descending-store ps q v w h =
+    let one : q + 1 ≡ suc q = omega arith in
+    let two : q + 2 ≡ suc (suc q) = omega arith in
+    rw (two, one)
+    (ap₂ {C = List ℕ} (λ x xs. x ∷ xs) (getD-set-same (set ps q v) (suc q) w 0 (rw length-set (omega arith)))
+    (ap₂ {C = List ℕ} (λ x xs. x ∷ xs) (getD-set-other (set ps q v) (suc q) q w 0 (λ e. omega arith) ∙ getD-set-same ps q v 0 (omega arith))
+    (descending-set q (set ps q v) (suc q) w (omega arith) ∙ descending-set q ps q v (omega arith))))
+
+-- ITS END, and the device before it
+pub descending-end : (n : ℕ) (ps : List ℕ) → 1 ≤ n → end (descending n ps) ≡ getD ps (n - 1) 0
+unfolding descending end
+descending-end zero ps h = absurd (omega arith)
+descending-end (suc n) ps h = let e : suc n - 1 ≡ n = omega arith in rw e
+
+pub descending-second : (n : ℕ) (ps : List ℕ) → 2 ≤ n → second (descending n ps) ≡ getD ps (n - 2) 0
+unfolding descending second
+descending-second zero ps h = absurd (omega arith)
+descending-second (suc zero) ps h = absurd (omega arith)
+descending-second (suc (suc n)) ps h = let e : suc (suc n) - 2 ≡ n = omega arith in rw e
+
+-- devices that fall strictly are no more than the first of them counts
+falling-length : (p : ℕ) (ps : List ℕ) → Falling (p ∷ ps) → length ps ≤ p
+unfolding Falling
+falling-length p [] f = omega arith
+falling-length p (q ∷ ps) f = omega (arith, f .0 q (Mem.here refl), falling-length q ps (f .1))
+
+-- a place is no higher than its device
+pub falling-place : (q : ℕ) (ps : List ℕ) → Falling (descending (suc q) ps) → q ≤ getD ps q 0
+unfolding descending
+falling-place q ps f = omega (arith, falling-length (getD ps q 0) (descending q ps) f, descending-length q ps)
+
+-- A SEARCH from the end down: what is left of the path says what all of it says
+pub record Sought (n : ℕ) (ps : List ℕ) (v left : ℕ) : Type 0 where
+  pub same-member : member v (descending n ps) ≡ member v (descending left ps)
+  pub same-cut : cut-to v (descending n ps) ≡ cut-to v (descending left ps)
+
+module _ (n : ℕ) (ps : List ℕ) (v : ℕ) where
+  pub sought-start : Sought n ps v n
+  sought-start = record { same-member = refl; same-cut = refl }
+
+  pub sought-lower : (k : ℕ) → Sought n ps v (suc k) → (getD ps k 0 ≡ v → ⊥) → Sought n ps v k
+  unfolding descending member cut-to
+  sought-lower k s d =
+      record { same-member = s .same-member ∙ simp (ne-eqb _ _ d); same-cut = s .same-cut ∙ simp (ne-eqb _ _ d) }
+
+  pub sought-found : (k : ℕ) → k < n → Sought n ps v (suc k) → getD ps k 0 ≡ v → Path-place n ps v k
+  unfolding descending cut-to
+  sought-found k h s e = record { below = h; is = e; cut = s .same-cut ∙ simp (eq-eqb _ _ e) }
+
+  pub sought-none : (left : ℕ) → left ≤ 0 → Sought n ps v left → member v (descending n ps) ≡ false
+  unfolding descending member
+  sought-none left h s = let e : left ≡ 0 = omega arith in s .same-member ∙ rw e
+
+  -- a device with a place is on the path
+  pub place-member : (q : ℕ) → Path-place n ps v q → member v (descending n ps) ≡ true
+  place-member q p = mem-to-test v (descending n ps) (cut-within v (descending n ps) (rw (p .cut) top))
+    where
+      top : Mem v (descending (suc q) ps)
+      top = unfold descending in Mem.here (p .is)

@@ -1,3 +1,4 @@
+pub mod Agreement
 pub mod AnswerLaws
 pub mod Answers
 pub mod CheckLaws

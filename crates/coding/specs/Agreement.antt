@@ -133,7 +133,7 @@ module _ (bs : List ℕ) (bytes : byte-list bs ≡ true) (fine : code-refusal bs
     back-exactly-least = (
       λ e. subst (Least (decoded rs)) (rec-bytes-injective (again .code) rs (sym again-bytes ∙ e ∙ sym (parts .bytes))) (again .least),
       λ l.
-      again-bytes ∙ ap rec-bytes (least-unique kinds-before kinds-order (decoded rs) (again .code) rs (again .least) l) ∙ parts .bytes,
+          again-bytes ∙ ap rec-bytes (least-unique kinds-before kinds-order (decoded rs) (again .code) rs (again .least) l) ∙ parts .bytes,
     )
 
     -- THE LEAST TEST answers yes exactly then

@@ -1,0 +1,16 @@
+pub mod Answers
+pub mod AnswerLaws
+pub mod Promise
+pub mod Outcomes
+pub mod Proved
+pub mod Tells
+pub mod Masks
+pub mod Ways
+pub mod NearLaws
+pub mod WaysLaws
+pub mod LabelCounts
+pub mod Searches
+pub mod Accepted
+pub mod FitLaws
+pub mod SearchLaws
+pub mod Guides

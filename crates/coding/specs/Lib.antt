@@ -1,4 +1,3 @@
-pub mod Agreement
 pub mod AnswerLaws
 pub mod Answers
 pub mod CheckLaws

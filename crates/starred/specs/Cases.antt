@@ -1,4 +1,4 @@
--- What the paper says of its starred drawings, D1 to D10: the kinds of case, what each means, how each is computed, and
+-- What the paper says of its starred drawings, D1 to D11: the kinds of case, what each means, how each is computed, and
 -- the table. Assumes nothing: these are definitions.
 use mathlib.Core.Path.{_≡_}
 use mathlib.Core.Bool.{Bool, true, false, _&&_, not}
@@ -8,7 +8,7 @@ use Prim.Native.Nat.{ℕ}
 use lib.Dec.{eqb}
 use lib.ListN.{replicate}
 use Rattle.graphs.specs.Drawing.{Cable, Drawing, drawing-in, drawing-bytes, accepted}
-use Rattle.graphs.specs.Map.{same-by, least-map}
+use Rattle.graphs.specs.Map.{same-by, maps-into, least-map, contains, Found}
 use Rattle.codes.specs.Code.{Rec, kinds-before, rows-good, rec-bytes, code-refusal, decoded, Code-of, Least}
 use Rattle.codes.specs.LeastSearch.{is-least-code}
 
@@ -19,12 +19,19 @@ pub data Case : Type 0 where
   other-code : (drawing : List ℕ) (code : List Rec) → Case
   -- the code's bytes are refused with this number
   refused-code : (code : List ℕ) (number : ℕ) → Case
+  -- both drawings are accepted, and this is the least map of the first into the second
+  matched : (pattern drawing : List ℕ) (map : List ℕ) → Case
+  -- both are accepted, and no map is
+  not-contained : (pattern drawing : List ℕ) → Case
 
 -- WHAT A CASE MEANS
 unfoldable pub Holds : Case → Type 0
 Holds (coded bs rs) = (accepted bs ≡ true) × Least (drawing-in bs) rs
 Holds (other-code bs rs) = (accepted bs ≡ true) × Code-of (drawing-in bs) rs × (Least (drawing-in bs) rs → ⊥)
 Holds (refused-code bs n) = code-refusal bs ≡ n
+Holds (matched ps ds f) = (accepted ps ≡ true) × (accepted ds ≡ true) × Found (drawing-in ps) (drawing-in ds) f
+Holds (not-contained ps ds) =
+    (accepted ps ≡ true) × (accepted ds ≡ true) × ((g : List ℕ) → maps-into (drawing-in ps) (drawing-in ds) g ≡ true → ⊥)
 
 -- HOW IT IS COMPUTED: a code by the least map of what it describes, the least code by search
 unfoldable pub same-by-found : Drawing → Drawing → Option (List ℕ) → Bool
@@ -34,10 +41,22 @@ same-by-found d e (some f) = same-by d e f
 unfoldable pub is-code-of : Drawing → List Rec → Bool
 is-code-of d rs = rows-good rs && same-by-found (decoded rs) d (least-map (decoded rs) d)
 
+unfoldable pub same-numbers : (f g : List ℕ) → Bool
+same-numbers [] [] = true
+same-numbers [] (y ∷ g) = false
+same-numbers (x ∷ f) [] = false
+same-numbers (x ∷ f) (y ∷ g) = eqb x y && same-numbers f g
+
+unfoldable pub is-map : Option (List ℕ) → List ℕ → Bool
+is-map none f = false
+is-map (some g) f = same-numbers g f
+
 unfoldable pub meets : Case → Bool
 meets (coded bs rs) = accepted bs && is-least-code kinds-before (drawing-in bs) rs
 meets (other-code bs rs) = accepted bs && (is-code-of (drawing-in bs) rs && not (is-least-code kinds-before (drawing-in bs) rs))
 meets (refused-code bs n) = eqb (code-refusal bs) n
+meets (matched ps ds f) = accepted ps && (accepted ds && is-map (least-map (drawing-in ps) (drawing-in ds)) f)
+meets (not-contained ps ds) = accepted ps && (accepted ds && not (contains (drawing-in ps) (drawing-in ds)))
 
 unfoldable pub all-meet : List Case → Bool
 all-meet [] = true
@@ -67,6 +86,12 @@ plain-code ps = map (λ p. tuple (p .0) (p .1) 1 5 1) ps
 unfoldable pub alike : (devices : ℕ) → Pairs → Case
 alike n ps = coded (plain-drawing n ps) (plain-code ps)
 
+abbrev path-of-3 : List ℕ
+path-of-3 = plain-drawing 3 ((0, 1) ∷ (1, 2) ∷ [])
+
+abbrev triangle : List ℕ
+triangle = plain-drawing 3 ((0, 1) ∷ (1, 2) ∷ (2, 0) ∷ [])
+
 -- THE TABLE
 unfoldable pub table : List Case
 table =
@@ -85,9 +110,12 @@ table =
     -- D7 star of 3
     ∷ alike 4 ((0, 1) ∷ (1, 2) ∷ (1, 3) ∷ [])
     -- D8 a DFS code of D3, not its least
-    ∷ other-code (plain-drawing 3 ((0, 1) ∷ (1, 2) ∷ [])) (plain-code ((0, 1) ∷ (0, 2) ∷ []))
+    ∷ other-code path-of-3 (plain-code ((0, 1) ∷ (0, 2) ∷ []))
     -- D9 refusal 10
     ∷ refused-code (rec-bytes (plain-code ((0, 1) ∷ (1, 2) ∷ (0, 3) ∷ (1, 4) ∷ []))) 10
     -- D10 refusal 10
     ∷ refused-code (rec-bytes (plain-code ((0, 1) ∷ (1, 0) ∷ []))) 10
+    -- D11 D3 in D4, and D4 in D3
+    ∷ matched path-of-3 triangle (0 ∷ 1 ∷ 2 ∷ [])
+    ∷ not-contained triangle path-of-3
     ∷ []

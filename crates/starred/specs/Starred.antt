@@ -1,10 +1,11 @@
 -- The starred drawings are as the paper says: one statement over the table, computed by the checker, and its meaning.
 -- Rests on the laws of the search for the least code. Assumes nothing.
-use mathlib.Core.Path.{_≡_, refl, subst}
+use mathlib.Core.Path.{_≡_, refl, ap, ap₂, subst}
 use mathlib.Core.Bool.{true, _&&_, not, false≢true}
 use mathlib.Core.List.{List, [], _∷_}
 use mathlib.Core.Option.{Option, none, some}
 use Prim.Native.Nat.{ℕ}
+use lib.Dec.{eqb}
 use borrow.Author.Tests.{eqb-true, not-true}
 use Rattle.laws.specs.Tests.{and-split, true-and-false}
 use Rattle.laws.specs.Lists.{Mem, concat}
@@ -47,8 +48,14 @@ use Rattle.graphs.specs.Map.{
   step-fits,
   search-from,
   least-map,
+  is-some,
+  contains,
+  Found,
 }
 use Rattle.graphs.specs.Patterns.{accepted-pattern}
+use Rattle.graphs.specs.Embedding.{Ends-in-range}
+use Rattle.graphs.specs.Embeddings.{embedding-from-test}
+use Rattle.graphs.specs.LeastMap.{least-map-found, contains-from-embedding}
 use Rattle.codes.specs.Code.{
   Rec,
   rec-in,
@@ -98,9 +105,13 @@ use Rattle.starred.specs.Cases.{
   coded,
   other-code,
   refused-code,
+  matched,
+  not-contained,
   Holds,
   same-by-found,
   is-code-of,
+  same-numbers,
+  is-map,
   meets,
   all-meet,
   drawing-of,
@@ -112,7 +123,7 @@ use Rattle.starred.specs.Cases.{
 
 -- THE STARRED DRAWINGS, computed
 pub starred : all-meet table ≡ true
-unfolding table alike plain-code plain-drawing drawing-of all-meet meets is-code-of same-by-found
+unfolding table alike is-map same-numbers contains is-some plain-code plain-drawing drawing-of all-meet meets is-code-of same-by-found
     is-least-code rows-same least-code search-rows least-record after-record locals chord-choice edge-choice firsts first-choice ways
     first-record edge-record chord-record least-of only-if each concat rows
     code-refusal recs-in rec-in rec-bytes rows-good rows-refusal kinds-match step-good forward-good backward-good second end forward
@@ -133,6 +144,23 @@ code-from-test d rs e =
     go g none h = absurd (false≢true h)
     go g (some f) h = record { good = g; numbers = f; describes = h }
 
+numbers-from-test : (f g : List ℕ) → same-numbers f g ≡ true → f ≡ g
+unfolding same-numbers
+numbers-from-test [] [] e = refl
+numbers-from-test [] (y ∷ g) e = absurd (false≢true e)
+numbers-from-test (x ∷ f) [] e = absurd (false≢true e)
+numbers-from-test (x ∷ f) (y ∷ g) e =
+    let s = and-split (eqb x y) (same-numbers f g) e in
+    ap₂ {C = List ℕ} (λ a b. a ∷ b) (eqb-true x y (s .0)) (numbers-from-test f g (s .1))
+
+map-from-test : (p d : Drawing) (f : List ℕ) → Ends-in-range p → is-map (least-map p d) f ≡ true → Found p d f
+unfolding is-map
+map-from-test p d f ends e = least-map-found p d f ends (go (least-map p d) e)
+  where
+    go : (m : Option (List ℕ)) → is-map m f ≡ true → m ≡ some f
+    go none h = absurd (false≢true h)
+    go (some g) h = ap some (numbers-from-test g f h)
+
 pub meets-holds : (c : Case) → meets c ≡ true → Holds c
 unfolding meets Holds
 meets-holds (coded bs rs) h =
@@ -146,6 +174,17 @@ meets-holds (other-code bs rs) h =
     let to-test = least-to-test kinds-before kinds-order d (accepted-pattern bs (s .0)) rs in
     (s .0, code-from-test d rs (t .0), λ l. true-and-false (to-test l) other)
 meets-holds (refused-code bs n) h = eqb-true (code-refusal bs) n h
+meets-holds (matched ps ds f) h =
+    let s = and-split (accepted ps) (accepted ds && is-map (least-map (drawing-in ps) (drawing-in ds)) f) h in
+    let t = and-split (accepted ds) (is-map (least-map (drawing-in ps) (drawing-in ds)) f) (s .1) in
+    (s .0, t .0, map-from-test (drawing-in ps) (drawing-in ds) f (accepted-pattern ps (s .0) .simple .ends) (t .1))
+meets-holds (not-contained ps ds) h =
+    let p = drawing-in ps in
+    let d = drawing-in ds in
+    let s = and-split (accepted ps) (accepted ds && not (contains p d)) h in
+    let t = and-split (accepted ds) (not (contains p d)) (s .1) in
+    let ends = accepted-pattern ps (s .0) .simple .ends in
+    (s .0, t .0, λ g m. true-and-false (contains-from-embedding p d g ends (embedding-from-test p d g m)) (not-true (contains p d) (t .1)))
 
 all-hold : (cs : List Case) → all-meet cs ≡ true → (c : Case) → Mem c cs → Holds c
 unfolding all-meet

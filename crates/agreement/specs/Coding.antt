@@ -60,7 +60,7 @@ module _ (xs o z : List ℕ) (r : Written) (fine : drawing-refusal xs ≡ 0) (ro
   coded-bytes : written-bytes r z ≡ rec-bytes (coded .code)
   coded-bytes = bytes-in-front (rec-bytes (coded .code)) o z r (coded .answer) (coded .output)
 
-accepted-refusal : (xs : List ℕ) → accepted xs ≡ true → drawing-refusal xs ≡ 0
+pub accepted-refusal : (xs : List ℕ) → accepted xs ≡ true → drawing-refusal xs ≡ 0
 unfolding accepted
 accepted-refusal xs a = eqb-true (drawing-refusal xs) 0 (and-split (byte-list xs) (eqb (drawing-refusal xs) 0) a .1)
 

@@ -1,0 +1,1 @@
+// Theory only: what the calls of different crates say of each other. No program code.

@@ -34,7 +34,7 @@ module _ {bs : List ℕ} (A : Byte-record bs) where
   record-pattern = accepted-pattern bs (and-both (bytes-list bs (λ i h. A .bytes i)) (eq-eqb _ 0 (A .accepted)))
 
   -- the kind of a device is its byte
-  kind-byte-is : (v : ℕ) → v < getD bs 0 0 → getD bs (2 + v) 0 ≡ kind (drawing-in bs) v
+  pub kind-byte-is : (v : ℕ) → v < getD bs 0 0 → getD bs (2 + v) 0 ≡ kind (drawing-in bs) v
   unfolding drawing-in
   kind-byte-is v h =
       getD-default bs (2 + v) 0 256 (omega (arith, parts .devices-high, parts .size))
@@ -42,14 +42,14 @@ module _ {bs : List ℕ} (A : Byte-record bs) where
 
   -- CABLE c of the record
   module _ (c : ℕ) (h : c < getD bs 1 0) {x : Cable} (is : x ≡ cable-of bs c) where
-    below : c < length (drawing-in bs .cables)
+    pub below : c < length (drawing-in bs .cables)
     below = omega (arith, parts .cable-count)
 
-    there : getD (drawing-in bs .cables) c x ≡ x
+    pub there : getD (drawing-in bs .cables) c x ≡ x
     unfolding drawing-in
     there = getD-default (drawing-in bs .cables) c x (cable-in []) below ∙ before-at (getD bs 1 0) bs c h ∙ sym is
 
-    ends : (x .a < devices (drawing-in bs)) × (x .b < devices (drawing-in bs))
+    pub ends : (x .a < devices (drawing-in bs)) × (x .b < devices (drawing-in bs))
     ends = cable-ends (drawing-in bs) record-pattern c x below there
 
     kind-low : x .kind < 256

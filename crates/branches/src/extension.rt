@@ -25,7 +25,7 @@ enum Found {
 }
 
 // The label from the path's end to place q, where a backward step may go there; elsewhere 0, as if no cable were there.
-fn chord_label(table: &[u32; CELLS], branch: Branch, q: usize) -> u32
+pub fn chord_label(table: &[u32; CELLS], branch: Branch, q: usize) -> u32
     requires { ⌜ Bounds (state-of branch) × (q < branch .count) ⌝ }
     ensures { λ r. ⌜ Chord-seen (now (table .entry)) (state-of branch) q r ⌝ }
 {

@@ -23,17 +23,8 @@ use Rattle.records.specs.RefusalLaws.{first-of, first-some, first-none}
 use Rattle.matching.specs.declared.answer.Matched.{Matched}
 use Rattle.matching.specs.declared.answer.Matched.the-variants.{Map, NotContained, Refused}
 use Rattle.matching.specs.declared.answer.Sameness.the-variants as sameness
-use Rattle.matching.specs.Answers.{
-  match-refusal,
-  match-count,
-  in-front,
-  match-number,
-  Match-as,
-  Match-says,
-  Same-as,
-  Same-says,
-}
-use Rattle.matching.specs.Searches.{found, Least-says}
+use Rattle.matching.specs.Answers.{match-refusal, match-count, in-front, match-number, Match-as, Match-says, Same-as, Same-says}
+use Rattle.matching.specs.Searches.{found-map, Least-says}
 use Rattle.matching.specs.Accepted.{accepted-simple, accepted-count, accepted-cables, accepted-most}
 
 -- BOTH ACCEPTED
@@ -109,7 +100,7 @@ module _ (xs ys : List ℕ) where
     where
       go : (n : ℕ) → 0 < n → number-of r ≡ n → Same-as n (drawing-in xs) (drawing-in ys) (sameness.Refused r)
       go zero h is = absurd (not-suc-le-zero h)
-      go (suc n) h is = unfold Same-as in is
+      go (suc n) h is = unfold Same-as in record { refusal = is; value = refl }
 
   module _ (ok : first-of (drawing-refusal xs) (drawing-refusal ys) ≡ 0) where
     ok-x : drawing-refusal xs ≡ 0
@@ -135,7 +126,7 @@ module _ (xs ys : List ℕ) where
       unfolding contains is-some
       contained = ap is-some (says .least) ∙ go r
         where
-          go : (r : Bool) → is-some (found r (take (devices (drawing-in xs)) now)) ≡ r
+          go : (r : Bool) → is-some (found-map r (take (devices (drawing-in xs)) now)) ≡ r
           go true = refl
           go false = refl
 

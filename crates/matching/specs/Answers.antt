@@ -33,6 +33,12 @@ same-refusal sameness.Yes = 0
 same-refusal sameness.No = 0
 same-refusal (sameness.Refused r) = number-of r
 
+-- 1 yes, 0 no
+abbrev pub same-value : Sameness → ℕ
+same-value sameness.Yes = 1
+same-value sameness.No = 0
+same-value (sameness.Refused r) = 0
+
 -- lent bytes past an answer keep their content
 abbrev pub in-front : (new old : List ℕ) → List ℕ
 in-front new old = new ++ drop (length new) old
@@ -69,9 +75,13 @@ unfoldable pub Match-says : (pattern drawing : List ℕ) → Matched → (out ou
 Match-says xs ys r o z = Match-as (match-number xs ys o) (least-map (drawing-in xs) (drawing-in ys)) r o z
 
 -- SAMENESS: the first drawing's refusals, then the second's; yes and the map of demand 3 is there, or no and there is none
+pub record Same-refused (number : ℕ) (r : Sameness) : Type 0 where
+  pub refusal : same-refusal r ≡ number
+  pub value : same-value r ≡ 0
+
 unfoldable pub Same-as : (number : ℕ) → (first second : Drawing) → Sameness → Type 0
 Same-as zero d e r = ((r ≡ sameness.Yes) × Same d e) ⊎ ((r ≡ sameness.No) × (Same d e → ⊥))
-Same-as (suc n) d e r = same-refusal r ≡ suc n
+Same-as (suc n) d e r = Same-refused (suc n) r
 
 unfoldable pub Same-says : (first second : List ℕ) → Sameness → Type 0
 Same-says xs ys r = Same-as (first-of (drawing-refusal xs) (drawing-refusal ys)) (drawing-in xs) (drawing-in ys) r

@@ -22,16 +22,7 @@ use Rattle.matching.specs.declared.answer.Matched.{Matched}
 use Rattle.matching.specs.declared.answer.Matched.the-variants.{Map, NotContained}
 use Rattle.matching.specs.declared.answer.Sameness.{Sameness}
 use Rattle.matching.specs.declared.answer.Sameness.the-variants as sameness
-use Rattle.matching.specs.Answers.{
-  match-refusal,
-  in-front,
-  match-number,
-  Map-written,
-  Match-as,
-  Match-says,
-  Same-as,
-  Same-says,
-}
+use Rattle.matching.specs.Answers.{match-refusal, in-front, match-number, Map-written, Match-as, Match-says, Same-as, Same-says}
 use Rattle.matching.specs.Accepted.{accepted-simple}
 use Rattle.matching.specs.AnswerLaws.{both-accepted, match-answered}
 

@@ -3,14 +3,13 @@ use mathlib.Core.Path.{_≡_, sym, _∙_}
 use mathlib.Core.List.{List, []}
 use Prim.Native.Nat.{ℕ, _+_, _*_, _<_}
 use native.Mathlib.Omega.{arith}
-use lib.ListN.{length, getD, drop}
-use lib.Seq.{getD-take, getD-drop}
+use lib.ListN.{length, getD}
 use borrow.Author.Tests.{eq-eqb}
 use Rattle.laws.specs.Tests.{and-both}
 use Rattle.laws.specs.Lists.{getD-default}
-use Rattle.graphs.specs.Drawing.{Cable, devices, kind, cable-in, drawing-in, drawing-refusal, accepted}
+use Rattle.graphs.specs.Drawing.{Cable, devices, cable-in, drawing-in, drawing-refusal, accepted}
 use Rattle.graphs.specs.Graph.{Pattern}
-use Rattle.graphs.specs.Patterns.{Accepted-parts, accepted-parts, accepted-pattern}
+use Rattle.graphs.specs.Patterns.{Accepted-parts, accepted-parts, accepted-pattern, kind-byte}
 use Rattle.codes.specs.BranchState.{Labels}
 use Rattle.records.specs.Cables.{cable-of}
 use Rattle.records.specs.CableLaws.{cable-read, before-at}
@@ -33,13 +32,6 @@ module _ {bs : List ℕ} (A : Byte-record bs) where
   unfolding accepted
   record-pattern = accepted-pattern bs (and-both (bytes-list bs (λ i h. A .bytes i)) (eq-eqb _ 0 (A .accepted)))
 
-  -- the kind of a device is its byte
-  pub kind-byte-is : (v : ℕ) → v < getD bs 0 0 → getD bs (2 + v) 0 ≡ kind (drawing-in bs) v
-  unfolding drawing-in
-  kind-byte-is v h =
-      getD-default bs (2 + v) 0 256 (omega (arith, parts .devices-high, parts .size))
-      ∙ sym (getD-take (getD bs 0 0) (drop 2 bs) v 256 h ∙ getD-drop 2 bs v 256)
-
   -- CABLE c of the record
   module _ (c : ℕ) (h : c < getD bs 1 0) {x : Cable} (is : x ≡ cable-of bs c) where
     pub below : c < length (drawing-in bs .cables)
@@ -61,7 +53,7 @@ module _ {bs : List ℕ} (A : Byte-record bs) where
     pub drawing-turn : {t : List ℕ} → Table (first-cables (drawing-in bs) c) t
         → Table (first-cables (drawing-in bs) (c + 1)) (put-cable t x (getD bs (2 + x .a) 0) (getD bs (2 + x .b) 0))
     drawing-turn {t} T =
-        rw (kind-byte-is (x .a) (rw (← parts .device-count) (ends .0)), kind-byte-is (x .b) (rw (← parts .device-count) (ends .1)))
+        rw (kind-byte bs (A .accepted) (x .a) (ends .0), kind-byte bs (A .accepted) (x .b) (ends .1))
         (table-next (drawing-in bs) record-pattern c x below there t kind-low T)
 
   pub drawing-done : (c : ℕ) {t : List ℕ} → c ≡ getD bs 1 0 → Table (first-cables (drawing-in bs) c) t → Labels (drawing-in bs) t

@@ -97,7 +97,7 @@ module _ (t : List ℕ) (x : Reading) (b : State) (z : Bounds b) where
           forward-not-deeper kinds-before (edge-of x b p m) (edge-of x b q l) ahead (z .on-path q (c .place)) (z .rises p q h (c .place))
       go (no h) (no k) =
           forward-same-ends kinds-before (edge-of x b p m) (edge-of x b q l) ahead i-is refl
-          (kinds-not-before (edge-of x b p m) (edge-of x b q l) (ap (λ (n : ℕ). getD (x .kinds) n 256) i-is) (label-order l m (c .some) least))
+          ∙ kinds-not-before (edge-of x b p m) (edge-of x b q l) (ap (λ (n : ℕ). getD (x .kinds) n 256) i-is) (label-order l m (c .some) least)
         where
           pq : p ≡ q
           pq = omega arith

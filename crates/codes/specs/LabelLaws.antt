@@ -64,7 +64,7 @@ module _ (d : Drawing) (ends : Ends-in-range d) (t : List ℕ) (table : Labels d
       go (inl z) = absurd (omega arith)
       go (inr z) = (z .0, rw (← e) (cable-labelled u v (z .0) (z .1)))
 
--- THE ORDER OF RECORDS, where it says no
+-- THE ORDER OF RECORDS, where it says no, or leaves it to the labels
 module _ (labels : Rec → Rec → Bool) (e r : Rec) where
   pub backward-not-lower : e .j < e .i → r .j < r .i → r .j < e .j → rec-before-by labels e r ≡ false
   unfolding rec-before-by forward
@@ -90,9 +90,10 @@ module _ (labels : Rec → Rec → Bool) (e r : Rec) where
         ne-eqb (e .i) (r .i) (λ z. omega arith),
       )
 
-  pub forward-same-ends : e .i < e .j → e .i ≡ r .i → e .j ≡ r .j → labels e r ≡ false → rec-before-by labels e r ≡ false
+  -- between the same ends the labels decide
+  pub forward-same-ends : e .i < e .j → e .i ≡ r .i → e .j ≡ r .j → rec-before-by labels e r ≡ labels e r
   unfolding rec-before-by forward
-  forward-same-ends p i j n =
+  forward-same-ends p i j =
       rw (
         lt-ltb (e .i) (e .j) p,
         lt-ltb (r .i) (r .j) (omega arith),
@@ -100,7 +101,7 @@ module _ (labels : Rec → Rec → Bool) (e r : Rec) where
         eq-eqb (e .i) (r .i) i,
         le-ltb (e .j) (r .j) (omega arith),
         eq-eqb (e .j) (r .j) j,
-      ) n
+      )
 
 -- the paper's order of labels, from equal kinds: where it says no
 pub kinds-not-before :

@@ -20,7 +20,6 @@ pub mod CodeDrawing
 pub mod CodeDrawingLaws
 pub mod SearchBest
 pub mod SearchCalls
-pub mod SearchKinds
 pub mod SearchLaws
 pub mod SearchStartCalls
 pub mod SearchStarts

@@ -1,8 +1,8 @@
--- The rightmost path as an array from device 0 on, read from its end down. Assumes nothing.
-use mathlib.Core.Path.{_≡_, refl, ap, ap₂, _∙_}
+-- The rightmost path as an array from device 0 on, searched from its end down. Rests on Descending. Assumes nothing.
+use mathlib.Core.Path.{_≡_, refl, ap₂, _∙_}
 use mathlib.Core.Bool.{true, false}
 use mathlib.Core.List.{List, [], _∷_}
-use Prim.Native.Nat.{ℕ, zero, suc, _+_, _-_, _≤_, _<_}
+use Prim.Native.Nat.{ℕ, suc, _+_, _≤_, _<_}
 use native.Mathlib.Omega.{arith}
 use lib.ListN.{length, getD, set, length-set}
 use lib.Seq.{getD-set-same, getD-set-other}
@@ -10,22 +10,11 @@ use borrow.Author.Tests.{eq-eqb, ne-eqb}
 use Rattle.laws.specs.Lists.{Mem}
 use Rattle.graphs.specs.Drawing.{member}
 use Rattle.graphs.specs.Cables.{mem-to-test}
-use Rattle.codes.specs.Code.{end, second, cut-to}
+use Rattle.codes.specs.Code.{cut-to}
 use Rattle.codes.specs.Step.{Falling, cut-within}
 use Rattle.codes.specs.BranchState.{descending}
+use Rattle.codes.specs.Descending.{descending-set, descending-high}
 use Rattle.coding.specs.Readings.{Path-place}
-
-pub descending-length : (n : ℕ) (ps : List ℕ) → length (descending n ps) ≡ n
-unfolding descending
-descending-length zero ps = refl
-descending-length (suc n) ps = ap suc (descending-length n ps)
-
--- a store past the first n changes nothing of them
-pub descending-set : (n : ℕ) (ps : List ℕ) (k v : ℕ) → n ≤ k → descending n (set ps k v) ≡ descending n ps
-unfolding descending
-descending-set zero ps k v h = refl
-descending-set (suc n) ps k v h =
-    ap₂ {C = List ℕ} (λ x xs. x ∷ xs) (getD-set-other ps k n v 0 (λ e. omega arith)) (descending-set n ps k v (omega arith))
 
 -- two stores, one after another, are its new end
 pub descending-store :
@@ -39,28 +28,9 @@ descending-store ps q v w h =
     (ap₂ {C = List ℕ} (λ x xs. x ∷ xs) (getD-set-other (set ps q v) (suc q) q w 0 (λ e. omega arith) ∙ getD-set-same ps q v 0 (omega arith))
     (descending-set q (set ps q v) (suc q) w (omega arith) ∙ descending-set q ps q v (omega arith))))
 
--- ITS END, and the device before it
-pub descending-end : (n : ℕ) (ps : List ℕ) → 1 ≤ n → end (descending n ps) ≡ getD ps (n - 1) 0
-unfolding descending end
-descending-end zero ps h = absurd (omega arith)
-descending-end (suc n) ps h = let e : suc n - 1 ≡ n = omega arith in rw e
-
-pub descending-second : (n : ℕ) (ps : List ℕ) → 2 ≤ n → second (descending n ps) ≡ getD ps (n - 2) 0
-unfolding descending second
-descending-second zero ps h = absurd (omega arith)
-descending-second (suc zero) ps h = absurd (omega arith)
-descending-second (suc (suc n)) ps h = let e : suc (suc n) - 2 ≡ n = omega arith in rw e
-
--- devices that fall strictly are no more than the first of them counts
-falling-length : (p : ℕ) (ps : List ℕ) → Falling (p ∷ ps) → length ps ≤ p
-unfolding Falling
-falling-length p [] f = omega arith
-falling-length p (q ∷ ps) f = omega (arith, f .0 q (Mem.here refl), falling-length q ps (f .1))
-
 -- a place is no higher than its device
 pub falling-place : (q : ℕ) (ps : List ℕ) → Falling (descending (suc q) ps) → q ≤ getD ps q 0
-unfolding descending
-falling-place q ps f = omega (arith, falling-length (getD ps q 0) (descending q ps) f, descending-length q ps)
+falling-place q ps f = descending-high (suc q) ps f q (omega arith)
 
 -- A SEARCH from the end down: what is left of the path says what all of it says
 pub record Sought (n : ℕ) (ps : List ℕ) (v left : ℕ) : Type 0 where

@@ -38,7 +38,8 @@ use Rattle.coding.specs.declared.reading.Step.{Step}
 use Rattle.coding.specs.declared.reading.Step.the-variants.{From, NotPermitted}
 use Rattle.coding.specs.Readings as readings
 use Rattle.coding.specs.Readings.{as-reading, Not-begun, Begun, Sound, Path-place, Place-says, Step-from, Step-says}
-use Rattle.coding.specs.PathLaws.{descending-end, descending-second, falling-place, place-member}
+use Rattle.codes.specs.Descending.{descending-end, descending-second}
+use Rattle.coding.specs.PathLaws.{falling-place, place-member}
 
 -- NO RECORD READ
 pub nothing-read : (c : Code) (ks : List ℕ) → Holds-nothing c → Not-begun (record { code = c; kinds = ks; devices = 0; back = 10 })

@@ -1,18 +1,19 @@
 -- The test `is-pattern` is the record `Pattern`, and an accepted drawing record reads as a pattern; lists of bytes.
 -- Rests on Simple and Connected. Assumes nothing.
-use mathlib.Core.Path.{_≡_, refl, _∙_}
+use mathlib.Core.Path.{_≡_, refl, sym, _∙_}
 use mathlib.Core.Bool.{Bool, true, false, _&&_, not, cond}
 use mathlib.Core.List.{List, [], _∷_, _++_}
-use Prim.Native.Nat.{ℕ, zero, suc, _≤_, _<_}
+use Prim.Native.Nat.{ℕ, zero, suc, _+_, _≤_, _<_}
 use native.Mathlib.Nat.{not-suc-le-zero, le-of-suc-le-suc}
 use native.Mathlib.Omega.{arith}
 use lib.Dec.{ltb, leb, eqb}
 use borrow.Author.Tests.{ltb-true, leb-true, eqb-true, eqb-false, lt-ltb, le-leb, eq-eqb}
 use lib.ListN.{length, getD, take, drop, take-append-drop, length-drop, length-map}
-use lib.Seq.{length-take-le}
+use lib.Seq.{length-take-le, getD-take, getD-drop}
+use Rattle.laws.specs.Lists.{getD-default}
 use Rattle.laws.specs.Tests.{and-split, and-both, passes, passes-last}
 use Rattle.laws.specs.Rows.{rows, rows-length}
-use Rattle.graphs.specs.Drawing.{Drawing, devices, cable-in, cables-in, drawing-in, byte-list, is-pattern}
+use Rattle.graphs.specs.Drawing.{Drawing, devices, kind, cable-in, cables-in, drawing-in, byte-list, is-pattern}
 use Rattle.graphs.specs.Drawing.{cable-refusal, unused-zero, connected, drawing-refusal, accepted}
 use Rattle.graphs.specs.Graph.{Simple, Pattern}
 use Rattle.graphs.specs.Simple.{simple-from-test, simple-to-test}
@@ -152,6 +153,17 @@ refusal-zero bs a =
 
     m : ℕ
     m = getD bs 1 0
+
+-- THE KIND of a device is its byte
+module _ (bs : List ℕ) (ok : drawing-refusal bs ≡ 0) (v : ℕ) (h : v < devices (drawing-in bs)) where
+  pub kind-place : 2 + v < length bs
+  kind-place = let a = accepted-parts bs ok in omega (arith, a .size, a .device-count, a .devices-high)
+
+  pub kind-byte : getD bs (2 + v) 0 ≡ kind (drawing-in bs) v
+  unfolding drawing-in
+  kind-byte =
+      getD-default bs (2 + v) 0 256 kind-place
+      ∙ sym (getD-take (getD bs 0 0) (drop 2 bs) v 256 (omega (arith, accepted-parts bs ok .device-count)) ∙ getD-drop 2 bs v 256)
 
 -- ACCEPTED BYTES are a pattern
 pub accepted-pattern : (bs : List ℕ) → accepted bs ≡ true → Pattern (drawing-in bs)

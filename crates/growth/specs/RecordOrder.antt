@@ -1,5 +1,5 @@
 -- The order of records, where it says yes: by position, by the kind of i, by label. Rests on Code and FirstRecord. Assumes nothing.
-use mathlib.Core.Path.{_≡_, refl}
+use mathlib.Core.Path.{_≡_, refl, _∙_}
 use mathlib.Core.Bool.{Bool, true}
 use Prim.Native.Nat.{ℕ, _<_}
 use native.Mathlib.Omega.{arith}
@@ -9,6 +9,7 @@ use Rattle.graphs.specs.Drawing.{Drawing, kind}
 use Rattle.codes.specs.Code.{Rec, forward, kinds-before, rec-before-by}
 use Rattle.codes.specs.FirstRecord.{first-record}
 use Rattle.codes.specs.BranchState.{label-of}
+use Rattle.codes.specs.LabelLaws.{forward-same-ends}
 
 -- BY POSITION, and by the labels where positions are equal
 module _ (labels : Rec → Rec → Bool) (e g : Rec) where
@@ -34,16 +35,7 @@ module _ (labels : Rec → Rec → Bool) (e g : Rec) where
       ) l
 
   pub same-forward-first : e .i < e .j → e .i ≡ g .i → e .j ≡ g .j → labels e g ≡ true → rec-before-by labels e g ≡ true
-  unfolding rec-before-by forward
-  same-forward-first p i j l =
-      rw (
-        lt-ltb (e .i) (e .j) p,
-        lt-ltb (g .i) (g .j) (omega arith),
-        le-ltb (g .i) (e .i) (omega arith),
-        eq-eqb (e .i) (g .i) i,
-        le-ltb (e .j) (g .j) (omega arith),
-        eq-eqb (e .j) (g .j) j,
-      ) l
+  same-forward-first p i j l = forward-same-ends labels e g p i j ∙ l
 
 -- BY THE LABELS: a smaller kind of i, or an equal one and a smaller label
 pub smaller-kind-first : (e g : Rec) → e .ki < g .ki → kinds-before e g ≡ true

@@ -1,6 +1,6 @@
 -- `search::kind_of` meets its contract: the byte of a device of an accepted drawing is there. Assumes nothing.
 use native.Mathlib.Omega.{arith}
-use Rattle.coding.specs.SearchKinds.{kind-place, kind-there}
+use Rattle.graphs.specs.Patterns.{kind-place, kind-byte}
 use Rattle.coding.proofs.search.kind_of.Statement.{statement}
 use Rattle.coding.proofs.search.kind_of.Tie as tie
 
@@ -15,7 +15,7 @@ shared-slice-read-result c =
 returns : tie.Need-returns
 returns c =
     let s = c .before in
-    kind-there (s .args .drawing .now) (s .pre .0) (s .args .v) (s .pre .1)
+    kind-byte (s .args .drawing .now) (s .pre .0) (s .args .v) (s .pre .1)
 
 pub kind-of-spec : {M : Type 1} → statement M
 kind-of-spec = tie.close (tie.spec add-result shared-slice-read-result returns)

@@ -32,7 +32,7 @@ use Rattle.coding.specs.declared.answer.Written.{Written}
 use Rattle.coding.specs.declared.answer.Written.the-variants as written
 use Rattle.coding.specs.declared.answer.Verdict.{Verdict}
 use Rattle.coding.specs.declared.answer.Verdict.the-variants as verdict
-use Rattle.coding.specs.Answers.{in-front, put-answer, put-bytes}
+use Rattle.coding.specs.Answers.{in-front, put-answer, put-bytes, verdict-numbers}
 use Rattle.coding.specs.Readings.{code-checked}
 use Rattle.coding.specs.CheckLaws.{code-checked-number}
 use Rattle.coding.specs.CodeDrawing.{coding-refusal, Code-as, Code-says, Least-written}
@@ -82,6 +82,15 @@ module _ (xs ys : List ℕ) (a : accepted xs ≡ true) (b : accepted ys ≡ true
       least-bytes-tell kinds-before kinds-order (drawing-in xs) (drawing-in ys) (accepted-pattern xs a .simple) (accepted-pattern ys b .simple)
       (c .code) (d .code) (c .least) (d .least) in
       (λ e. t .0 (sym cs ∙ e ∙ ds), λ m. cs ∙ t .1 m ∙ sym ds)
+
+-- THE LEAST TEST refuses with the paper's number, exactly where the code is refused
+pub least-refusal : (bs : List ℕ) (v : Verdict) → Least-says bs v → verdict-numbers v .refusal ≡ code-refusal bs
+least-refusal bs v h = go (code-checked bs) h ∙ code-checked-number bs
+  where
+    go : (c : Checked) → Least-answer c (code-records bs) v → verdict-numbers v .refusal ≡ checked-number c
+    go (Refused x) e = ap (λ (w : Verdict). verdict-numbers w .refusal) e
+    go Accepted (inl y) = ap (λ (w : Verdict). verdict-numbers w .refusal) (y .0)
+    go Accepted (inr n) = ap (λ (w : Verdict). verdict-numbers w .refusal) (n .0)
 
 -- A CODE of bytes that is not refused
 module _ (bs : List ℕ) (bytes : byte-list bs ≡ true) (fine : code-refusal bs ≡ 0) where

@@ -104,5 +104,6 @@ pub record Can-take (h : held.Reading) (e : Rec) : Type 0 where
 -- what is known after it
 pub record Steps (h : held.Reading) (e : Rec) (r : held.Reading) : Type 0 where
   pub is : as-reading r ≡ stepped (as-reading h) e
+  pub records : held-records (r .code) ≡ held-records (h .code) ++ (e ∷ [])
   pub begun : Begun r
   pub count : r .code .count ≡ h .code .count + 1

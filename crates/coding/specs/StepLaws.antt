@@ -122,6 +122,7 @@ module _ (h : held.Reading) (e : Rec) (s : Can-take h e) (r : Code) (a : Appende
       go (readings.begun b) =
           record {
             is = is b;
+            records = a .records;
             begun =
                 record {
                   invariant = rw (is b) (stepped-invariant h e s);
@@ -240,6 +241,7 @@ module _ (h : held.Reading) (wide : length (h .kinds) ≡ 10) (long : length (h 
     steps-forward =
         record {
           is = is;
+          records = a .records;
           begun =
               record {
                 invariant = rw is (stepped-invariant h e s);

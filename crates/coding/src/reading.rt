@@ -109,7 +109,7 @@ impl Reading {
     }
 
     // What the next record is read as. The first one is (0, 1), and device 0 is then to stand at place 0.
-    pub(crate) fn step(self, next: Record) -> Step
+    pub fn step(self, next: Record) -> Step
         requires { ⌜ Sound self ⌝ }
         ensures { λ r. ⌜ Step-says self (as-rec next) r ⌝ }
     {
@@ -184,7 +184,7 @@ impl Reading {
     }
 
     // What is known after a record that is a step from the device at a place of the path.
-    pub(crate) fn stepped(self, place: usize, next: Record) -> Self
+    pub fn stepped(self, place: usize, next: Record) -> Self
         requires { ⌜ Can-take self (as-rec next) × Step-from self (as-rec next) place ⌝ }
         ensures { λ r. ⌜ Steps self (as-rec next) r ⌝ }
     {

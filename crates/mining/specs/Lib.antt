@@ -22,3 +22,8 @@ pub mod LabelMarkLaws
 pub mod CableLabels
 pub mod SurveyLabels
 pub mod LabelNumbers
+pub mod Prepared
+pub mod Counts
+pub mod Choices
+pub mod Growings
+pub mod CatalogueSays

@@ -1,5 +1,6 @@
 // Mining: what the search for the patterns of a survey rests on. Its functions ask of their callers what `requires` says;
 // the entries of the crates above ask nothing.
+pub mod answer; // answer.rt: what writing a catalogue answers
 pub mod entry; // entry.rt: one entry of a catalogue written into its own bytes
 pub mod tables; // tables.rt: the tables of labels of a survey's drawings
 pub mod ranks; // ranks.rt: the labels of a survey numbered in rising order

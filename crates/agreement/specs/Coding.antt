@@ -26,7 +26,7 @@ use Rattle.codes.specs.Decoded.{decoded-pattern, decoded-bytes, rows-bytes}
 use Rattle.codes.specs.FullCode.{least-unique}
 use Rattle.records.specs.declared.refusal.Checked.{Checked}
 use Rattle.records.specs.declared.refusal.Checked.the-variants.{Accepted, Refused}
-use Rattle.records.specs.Refusals.{checked-number, number-positive}
+use Rattle.records.specs.Refusals.{checked-number}
 use Rattle.records.specs.RefusalLaws.{first-none}
 use Rattle.coding.specs.declared.answer.Written.{Written}
 use Rattle.coding.specs.declared.answer.Written.the-variants as written
@@ -34,7 +34,7 @@ use Rattle.coding.specs.declared.answer.Verdict.{Verdict}
 use Rattle.coding.specs.declared.answer.Verdict.the-variants as verdict
 use Rattle.coding.specs.Answers.{in-front, put-answer, put-bytes, verdict-numbers}
 use Rattle.coding.specs.Readings.{code-checked}
-use Rattle.coding.specs.CheckLaws.{code-checked-number}
+use Rattle.coding.specs.CheckLaws.{code-checked-number, accepted-checked}
 use Rattle.coding.specs.CodeDrawing.{coding-refusal, Code-as, Code-says, Least-written}
 use Rattle.coding.specs.Decoding.{decode-checked, Decode-says}
 use Rattle.coding.specs.LeastSays.{Least-answer, Least-says}
@@ -105,11 +105,7 @@ module _ (bs : List ℕ) (bytes : byte-list bs ≡ true) (fine : code-refusal bs
   described = decoded-pattern rs (parts .good) (decoded-bytes rs (rw (parts .bytes) bytes))
 
   checked-fine : code-checked bs ≡ Accepted
-  checked-fine = go (code-checked bs) (code-checked-number bs ∙ fine)
-    where
-      go : (c : Checked) → checked-number c ≡ 0 → c ≡ Accepted
-      go Accepted e = refl
-      go (Refused x) e = absurd (omega (arith, number-positive x))
+  checked-fine = accepted-checked bs fine
 
   -- decoded into 72 bytes or more, then coded into as many bytes as the code has, or more
   module _ (o p : List ℕ) (room : 72 ≤ length o) (space : length bs ≤ length p)

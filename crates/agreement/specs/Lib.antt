@@ -1,2 +1,5 @@
 pub mod Coding
 pub mod Sameness
+pub mod ThirdDemand
+pub mod ReadEntries
+pub mod Catalogues

@@ -15,7 +15,7 @@ use Rattle.records.specs.declared.refusal.Refusal.{Refusal}
 use Rattle.records.specs.declared.refusal.Refusal.the-variants as refusal
 use Rattle.records.specs.declared.refusal.Checked.{Checked}
 use Rattle.records.specs.declared.refusal.Checked.the-variants.{Accepted, Refused}
-use Rattle.records.specs.Refusals.{checked-number}
+use Rattle.records.specs.Refusals.{checked-number, number-positive}
 use Rattle.laws.specs.Rows.{rows-left, left-start, left-next, left-end}
 use Rattle.coding.specs.Answers.{or-else}
 use Rattle.coding.specs.declared.reading.Reading as held
@@ -50,6 +50,14 @@ code-checked-number bs = go (eqb (length bs) 0 || (ltb 100 (length bs) || not (e
 -- a code that is accepted has no refusal
 pub checked-accepted : (bs : List ℕ) → code-checked bs ≡ Accepted → code-refusal bs ≡ 0
 checked-accepted bs e = sym (code-checked-number bs) ∙ ap checked-number e
+
+-- and one without a refusal is accepted
+pub accepted-checked : (bs : List ℕ) → code-refusal bs ≡ 0 → code-checked bs ≡ Accepted
+accepted-checked bs fine = go (code-checked bs) (code-checked-number bs ∙ fine)
+  where
+    go : (c : Checked) → checked-number c ≡ 0 → c ≡ Accepted
+    go Accepted e = refl
+    go (Refused x) e = absurd (omega (arith, number-positive x))
 
 -- THE LENGTH decides, or else the records do
 module _ (bs : List ℕ) where

@@ -15,7 +15,7 @@ use Rattle.laws.specs.Tests.{and-split, and-both, passes, passes-last}
 use Rattle.laws.specs.Rows.{rows, rows-length}
 use Rattle.graphs.specs.Drawing.{Drawing, devices, kind, cable-in, cables-in, drawing-in, byte-list, is-pattern}
 use Rattle.graphs.specs.Drawing.{cable-refusal, unused-zero, connected, drawing-refusal, accepted}
-use Rattle.graphs.specs.Graph.{Simple, Pattern}
+use Rattle.graphs.specs.Graph.{Pattern}
 use Rattle.graphs.specs.Simple.{simple-from-test, simple-to-test}
 use Rattle.graphs.specs.Connected.{connected-from-test, connected-to-test}
 
@@ -165,25 +165,28 @@ module _ (bs : List ℕ) (ok : drawing-refusal bs ≡ 0) (v : ℕ) (h : v < devi
       getD-default bs (2 + v) 0 256 kind-place
       ∙ sym (getD-take (getD bs 0 0) (drop 2 bs) v 256 (omega (arith, accepted-parts bs ok .device-count)) ∙ getD-drop 2 bs v 256)
 
--- ACCEPTED BYTES are a pattern
-pub accepted-pattern : (bs : List ℕ) → accepted bs ≡ true → Pattern (drawing-in bs)
-unfolding accepted
-accepted-pattern bs h =
-    let s = and-split (byte-list bs) (eqb (drawing-refusal bs) 0) h in
-    let a = accepted-parts bs (eqb-true (drawing-refusal bs) 0 (s .1)) in
-    go (s .0) a (simple-from-test (drawing-in bs) (rw (a .device-count) (a .cables-good)))
+-- AN ACCEPTED RECORD whose device kinds are bytes is a pattern, and so are accepted bytes
+pub kinds-pattern : (bs : List ℕ) → drawing-refusal bs ≡ 0 → byte-list (drawing-in bs .kinds) ≡ true → Pattern (drawing-in bs)
+kinds-pattern bs e kinds = go (accepted-parts bs e)
   where
-    kinds : byte-list bs ≡ true → byte-list (drawing-in bs .kinds) ≡ true
-    kinds p = unfold drawing-in in byte-list-take (getD bs 0 0) (drop 2 bs) (byte-list-drop 2 bs p)
-
-    go : byte-list bs ≡ true → Accepted-parts bs → Simple (drawing-in bs) → Pattern (drawing-in bs)
-    go p a s =
+    go : Accepted-parts bs → Pattern (drawing-in bs)
+    go a =
+        let s = simple-from-test (drawing-in bs) (rw (a .device-count) (a .cables-good)) in
         record {
           devices-low = omega (arith, a .device-count, a .devices-low);
           devices-high = omega (arith, a .device-count, a .devices-high);
           cables-low = omega (arith, a .cable-count, a .cables-low);
           cables-high = omega (arith, a .cable-count, a .cables-high);
-          bytes = kinds p;
+          bytes = kinds;
           simple = s;
           connected = connected-from-test (drawing-in bs) (s .ends) (omega (arith, a .device-count, a .devices-low)) (a .is-connected);
         }
+
+pub accepted-pattern : (bs : List ℕ) → accepted bs ≡ true → Pattern (drawing-in bs)
+unfolding accepted
+accepted-pattern bs h =
+    let s = and-split (byte-list bs) (eqb (drawing-refusal bs) 0) h in
+    kinds-pattern bs (eqb-true (drawing-refusal bs) 0 (s .1)) (kinds (s .0))
+  where
+    kinds : byte-list bs ≡ true → byte-list (drawing-in bs .kinds) ≡ true
+    kinds p = unfold drawing-in in byte-list-take (getD bs 0 0) (drop 2 bs) (byte-list-drop 2 bs p)

@@ -1,30 +1,27 @@
 -- Each accepted survey has just one catalogue: the frequent least codes, rising, each with its support. Rests on Growth
 -- and Frequent. Assumes nothing.
-use mathlib.Core.Path.{_≡_, refl, sym, ap, ap₂, _∙_, subst}
-use mathlib.Core.Bool.{Bool, true, false, _&&_, not, cond}
-use mathlib.Core.List.{List, [], _∷_, _++_, map}
-use mathlib.Core.Logic.{_⊎_, inl, inr}
-use Prim.Native.Nat.{ℕ, suc, _+_, _/_, _%_, _≤_, _<_}
+use mathlib.Core.Path.{_≡_, refl, ap, subst}
+use mathlib.Core.Bool.{Bool, true}
+use mathlib.Core.List.{List, [], _∷_, map}
+use Prim.Native.Nat.{ℕ, _≤_, _<_}
 use native.Mathlib.Omega.{arith}
-use lib.Dec.{leb, eqb}
 use lib.ListN.{length, getD}
-use borrow.Author.Tests.{leb-true}
-use Rattle.laws.specs.Tests.{and-split}
 use Rattle.laws.specs.Lists.{Mem, mem-map}
 use Rattle.laws.specs.Rising.{Rises, rising-equal}
 use Rattle.graphs.specs.Drawing.{Drawing, is-pattern, byte-list}
 use Rattle.graphs.specs.Map.{Same}
-use Rattle.graphs.specs.Survey.{survey, survey-refusal, bytes-refusal, refusal, Refusal, support}
+use Rattle.graphs.specs.Survey.{survey, support}
 use Rattle.graphs.specs.Graph.{Simple}
 use Rattle.graphs.specs.Patterns.{pattern-from-test, pattern-to-test, byte-list-at, byte-list-from}
 use Rattle.graphs.specs.Containment.{support-same}
-use Rattle.codes.specs.Code.{Rec, Code-of, Least-by, before-by, decoded, rows-good, kinds-before}
+use Rattle.codes.specs.Code.{Rec, Code-of, Least-by, before-by, decoded, kinds-before}
 use Rattle.codes.specs.CodeOrder.{Label-order, kinds-order, before-strict}
 use Rattle.codes.specs.Rows.{good-from-test}
 use Rattle.codes.specs.FullCode.{Coded, coded-from-test, coded-length, coded-simple}
 use Rattle.codes.specs.CodesTell.{code-along}
 use Rattle.codes.specs.Decoded.{decoded-pattern, decoded-code}
-use Rattle.growth.specs.Catalogue.{Entry, entry, Frequent-entry, Catalogue-by, Catalogue, Catalogue-there}
+use Rattle.growth.specs.Catalogue.{Entry, entry, Frequent-entry, Catalogue-by, Catalogue-there}
+use Rattle.growth.specs.Settings.{accepted-settings}
 use Rattle.growth.specs.Growth.{Listed, listed-there}
 use Rattle.growth.specs.Frequent.{Frequent, frequent-prefix, decide-frequent, survey-candidates, frequent-candidate}
 
@@ -134,13 +131,7 @@ module _ (labels : Rec → Rec → Bool) (o : Label-order labels) (ds : List Dra
 
 -- THE STATEMENT, proved
 pub catalogue-there : Catalogue-there
-unfolding Catalogue-there survey-refusal refusal
+unfolding Catalogue-there
 catalogue-there bs s l b h =
-    let t = catalogue-exists kinds-before kinds-order (survey bs) s l (low (leb 1 s) (leb s 32) refl h) in
+    let t = catalogue-exists kinds-before kinds-order (survey bs) s l (accepted-settings bs s l h .threshold-low) in
     (t .0, t .1, λ gs g. catalogue-unique kinds-before kinds-order (survey bs) s l gs (t .0) g (t .1))
-  where
-    low :
-        (p q : Bool) → leb 1 s ≡ p
-        → cond (not (p && q)) (refusal 12 0) (cond (not (leb 1 l && leb l 8)) (refusal 13 0) (bytes-refusal bs)) .number ≡ 0 → 1 ≤ s
-    low true q e n = leb-true 1 s e
-    low false q e n = absurd (omega arith)

@@ -14,3 +14,7 @@ pub mod Counting
 pub mod Counted
 pub mod ListedBy
 pub mod Firsts
+pub mod Walking
+pub mod Settings
+pub mod Mined
+pub mod MinedLaws

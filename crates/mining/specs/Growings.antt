@@ -1,15 +1,12 @@
 -- A code that grows, as the program holds it. Assumes nothing: these are definitions.
 use mathlib.Core.Path.{_≡_}
-use mathlib.Core.Bool.{cond}
 use mathlib.Core.List.{List, [], _∷_}
-use Prim.Native.Nat.{ℕ, suc, _+_, _≤_, _<_}
-use lib.Dec.{eqb}
-use lib.ListN.{length}
+use Prim.Native.Nat.{ℕ, _+_, _-_, _/_, _%_, _≤_, _<_}
 use Rattle.laws.specs.Lists.{snoc}
 use Rattle.codes.specs.Code.{Rec, Reading, fresh, rows-refusal, read-rows}
 use Rattle.coding.specs.declared.reading.Reading as held
 use Rattle.coding.specs.Readings.{held-records, as-reading, Sound}
-use Rattle.growth.specs.Places.{record-at}
+use Rattle.growth.specs.Places.{place-of, record-at}
 use Rattle.growth.specs.PlaceLaws.{Placed}
 use Rattle.growth.specs.PlacedRecords.{alone}
 
@@ -28,11 +25,17 @@ abbrev pub basis : (kind : ℕ) → List Rec → Reading
 basis k [] = alone k
 basis k (r ∷ rs) = read-rows fresh (r ∷ rs)
 
+-- the record from i, of kind ki, to j along a label
+abbrev pub labelled : (i j ki l : ℕ) → Rec
+labelled i j ki l = record { i = i; j = j; ki = ki; c = (l - 1) / 256; kj = (l - 1) % 256 }
+
 -- the record at a place of the survey's labels can be read off
 pub record Can-read (h : held.Reading) (kind : ℕ) (rank alphabet : List ℕ) (n place : ℕ) : Type 0 where
   pub holding : Holding h
   pub labels : n ≤ 1280
   pub placed : Placed (basis kind (records-of h)) rank alphabet n (record-at (basis kind (records-of h)) alphabet n place)
+  pub place-is : place-of rank n (record-at (basis kind (records-of h)) alphabet n place) ≡ place
+  pub byte : record-at (basis kind (records-of h)) alphabet n place .c < 256
   pub below : place < 20480
   pub some : 0 < n
 

@@ -8,3 +8,7 @@ pub mod cells; // cells.rt: the table of cells, one for each place, and the list
 pub mod mark; // mark.rt: the places of the records that go on from a branch
 pub mod step; // step.rt: one record of a code as a step from a branch
 pub mod visit; // visit.rt: the walk over all numberings of a code in a drawing
+pub mod choose; // choose.rt: the candidates taken out of the cells
+pub mod count; // count.rt: the cells counted over all drawings
+pub mod growing; // growing.rt: a code that grows
+pub mod grow; // grow.rt: growing a pattern and walking its next cables

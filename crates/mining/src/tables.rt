@@ -7,6 +7,7 @@ ghost use Prim.Native.Nat.{_<_};
 ghost use lib.ListN.{length};
 ghost use Rattle.laws.specs.Rows.{row};
 ghost use Rattle.graphs.specs.Survey.{bytes-refusal};
+ghost use Rattle.codes.specs.BranchState.{label-at};
 ghost use Rattle.mining.specs.PutRecords.{put-record};
 ghost use Rattle.mining.specs.DrawingTables.{Tables};
 
@@ -48,4 +49,12 @@ pub fn table_of(labels: &[u32; 3200], d: usize) -> [u32; 100]
         table[i] = labels[at + i];
     }
     table
+}
+
+// The label of the cable from device u to device v of drawing d, with no copy of its table.
+pub fn label_in(labels: &[u32; 3200], d: usize, u: usize, v: usize) -> u32
+    requires { ⌜ (d < 32) × (u < 10) × (v < 10) ⌝ }
+    ensures { λ r. ⌜ r ≡ label-at (row 100 d (now (labels .entry))) u v ⌝ }
+{
+    labels[TABLE * d + (Drawing::MOST_DEVICES * u + v)]
 }

@@ -1,16 +1,19 @@
--- What the paper says of its starred drawings, D1 to D11: the kinds of case, what each means, how each is computed, and
+-- What the paper says of its starred drawings, D1 to D12: the kinds of case, what each means, how each is computed, and
 -- the table. Assumes nothing: these are definitions.
 use mathlib.Core.Path.{_≡_}
 use mathlib.Core.Bool.{Bool, true, false, _&&_, not}
-use mathlib.Core.List.{List, [], _∷_, map}
+use mathlib.Core.List.{List, [], _∷_, _++_, map}
 use mathlib.Core.Option.{Option, none, some}
 use Prim.Native.Nat.{ℕ}
 use lib.Dec.{eqb}
 use lib.ListN.{replicate}
-use Rattle.graphs.specs.Drawing.{Cable, Drawing, drawing-in, drawing-bytes, accepted}
+use Rattle.graphs.specs.Drawing.{Cable, Drawing, drawing-in, drawing-bytes, byte-list, accepted}
 use Rattle.graphs.specs.Map.{same-by, maps-into, least-map, contains, Found}
+use Rattle.graphs.specs.Survey.{survey, survey-refusal}
 use Rattle.codes.specs.Code.{Rec, kinds-before, rows-good, rec-bytes, code-refusal, decoded, Code-of, Least}
-use Rattle.codes.specs.LeastSearch.{is-least-code}
+use Rattle.codes.specs.LeastSearch.{rows-same, is-least-code}
+use Rattle.growth.specs.Catalogue.{Entry, entry, Catalogue}
+use Rattle.growth.specs.Mined.{mined-entries}
 
 pub data Case : Type 0 where
   -- the drawing is accepted, and this is its least code
@@ -23,6 +26,8 @@ pub data Case : Type 0 where
   matched : (pattern drawing : List ℕ) (map : List ℕ) → Case
   -- both are accepted, and no map is
   not-contained : (pattern drawing : List ℕ) → Case
+  -- the survey and the settings are accepted, and this is the catalogue
+  catalogued : (survey : List ℕ) (s l : ℕ) (entries : List Entry) → Case
 
 -- WHAT A CASE MEANS
 unfoldable pub Holds : Case → Type 0
@@ -32,8 +37,9 @@ Holds (refused-code bs n) = code-refusal bs ≡ n
 Holds (matched ps ds f) = (accepted ps ≡ true) × (accepted ds ≡ true) × Found (drawing-in ps) (drawing-in ds) f
 Holds (not-contained ps ds) =
     (accepted ps ≡ true) × (accepted ds ≡ true) × ((g : List ℕ) → maps-into (drawing-in ps) (drawing-in ds) g ≡ true → ⊥)
+Holds (catalogued bs s l es) = (byte-list bs ≡ true) × (survey-refusal bs s l .number ≡ 0) × Catalogue (survey bs) s l es
 
--- HOW IT IS COMPUTED: a code by the least map of what it describes, the least code by search
+-- HOW IT IS COMPUTED: a code by the least map of what it describes, the least code by search, the catalogue by growth
 unfoldable pub same-by-found : Drawing → Drawing → Option (List ℕ) → Bool
 same-by-found d e none = false
 same-by-found d e (some f) = same-by d e f
@@ -51,12 +57,20 @@ unfoldable pub is-map : Option (List ℕ) → List ℕ → Bool
 is-map none f = false
 is-map (some g) f = same-numbers g f
 
+unfoldable pub same-entries : (es gs : List Entry) → Bool
+same-entries [] [] = true
+same-entries [] (g ∷ gs) = false
+same-entries (e ∷ es) [] = false
+same-entries (e ∷ es) (g ∷ gs) = (eqb (e .support) (g .support) && rows-same (e .code) (g .code)) && same-entries es gs
+
 unfoldable pub meets : Case → Bool
 meets (coded bs rs) = accepted bs && is-least-code kinds-before (drawing-in bs) rs
 meets (other-code bs rs) = accepted bs && (is-code-of (drawing-in bs) rs && not (is-least-code kinds-before (drawing-in bs) rs))
 meets (refused-code bs n) = eqb (code-refusal bs) n
 meets (matched ps ds f) = accepted ps && (accepted ds && is-map (least-map (drawing-in ps) (drawing-in ds)) f)
 meets (not-contained ps ds) = accepted ps && (accepted ds && not (contains (drawing-in ps) (drawing-in ds)))
+meets (catalogued bs s l es) =
+    byte-list bs && (eqb (survey-refusal bs s l .number) 0 && same-entries (mined-entries kinds-before (survey bs) s l) es)
 
 unfoldable pub all-meet : List Case → Bool
 all-meet [] = true
@@ -92,6 +106,14 @@ path-of-3 = plain-drawing 3 ((0, 1) ∷ (1, 2) ∷ [])
 abbrev triangle : List ℕ
 triangle = plain-drawing 3 ((0, 1) ∷ (1, 2) ∷ (2, 0) ∷ [])
 
+-- the codes of D3's first record, D3, D4 with supports 2, 2, 1
+abbrev path-and-triangle : List Entry
+path-and-triangle =
+    entry 2 (plain-code ((0, 1) ∷ []))
+    ∷ entry 2 (plain-code ((0, 1) ∷ (1, 2) ∷ []))
+    ∷ entry 1 (plain-code ((0, 1) ∷ (1, 2) ∷ (2, 0) ∷ []))
+    ∷ []
+
 -- THE TABLE
 unfoldable pub table : List Case
 table =
@@ -118,4 +140,6 @@ table =
     -- D11 D3 in D4, and D4 in D3
     ∷ matched path-of-3 triangle (0 ∷ 1 ∷ 2 ∷ [])
     ∷ not-contained triangle path-of-3
+    -- D12 D3 then D4, s = 1, L = 4
+    ∷ catalogued (path-of-3 ++ triangle) 1 4 path-and-triangle
     ∷ []

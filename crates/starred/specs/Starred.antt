@@ -11,6 +11,7 @@ use Rattle.laws.specs.Tests.{and-split, true-and-false}
 use Rattle.laws.specs.Lists.{Mem, concat}
 use Rattle.laws.specs.Rows.{rows}
 use Rattle.laws.specs.Selections.{each, only-if, least-of}
+use Rattle.laws.specs.Rising.{placed, sorted}
 use Rattle.graphs.specs.Drawing.{
   Drawing,
   cable-in,
@@ -31,6 +32,7 @@ use Rattle.graphs.specs.Drawing.{
   drawing-refusal,
   byte-list,
   accepted,
+  is-pattern,
 }
 use Rattle.graphs.specs.Map.{
   has-cable,
@@ -51,6 +53,18 @@ use Rattle.graphs.specs.Map.{
   is-some,
   contains,
   Found,
+}
+use Rattle.graphs.specs.Survey.{
+  records-in,
+  survey,
+  refusal,
+  drawings-refusal,
+  length-refusal,
+  bytes-refusal,
+  survey-refusal,
+  containing,
+  count-true,
+  support,
 }
 use Rattle.graphs.specs.Patterns.{accepted-pattern}
 use Rattle.graphs.specs.Embedding.{Ends-in-range}
@@ -98,8 +112,13 @@ use Rattle.codes.specs.LeastSearch.{
   least-code,
   rows-same,
   is-least-code,
+  is-least,
 }
-use Rattle.codes.specs.LeastSearchLaws.{least-from-test, least-to-test}
+use Rattle.codes.specs.LeastSearchLaws.{least-from-test, least-to-test, rows-same-from-test}
+use Rattle.growth.specs.Catalogue.{Entry, Catalogue}
+use Rattle.growth.specs.Catalogues.{entry-eq}
+use Rattle.growth.specs.Mined.{next-records, is-frequent, mined, mined-entries}
+use Rattle.growth.specs.MinedLaws.{catalogue-mined}
 use Rattle.starred.specs.Cases.{
   Case,
   coded,
@@ -107,11 +126,13 @@ use Rattle.starred.specs.Cases.{
   refused-code,
   matched,
   not-contained,
+  catalogued,
   Holds,
   same-by-found,
   is-code-of,
   same-numbers,
   is-map,
+  same-entries,
   meets,
   all-meet,
   drawing-of,
@@ -131,6 +152,8 @@ unfolding table alike is-map same-numbers contains is-some plain-code plain-draw
     least-map search-from step-fits when try-each or-map fits-so-far same-by inverse-from inverse-at maps-into cables-land kinds-kept
     all-different has-cable accepted byte-list drawing-refusal connected reached spread with-ends member unused-zero all-zero
     cable-refusal joined-by joins drawing-bytes cable-bytes drawing-in cables-in cable-in
+    same-entries mined-entries mined is-frequent next-records sorted placed is-least is-pattern support count-true containing
+    survey-refusal bytes-refusal length-refusal drawings-refusal refusal survey records-in
 starred = refl
 
 -- WHAT IS COMPUTED IS SO
@@ -161,6 +184,18 @@ map-from-test p d f ends e = least-map-found p d f ends (go (least-map p d) e)
     go none h = absurd (false≢true h)
     go (some g) h = ap some (numbers-from-test g f h)
 
+entries-from-test : (es gs : List Entry) → same-entries es gs ≡ true → es ≡ gs
+unfolding same-entries
+entries-from-test [] [] h = refl
+entries-from-test [] (g ∷ gs) h = absurd (false≢true h)
+entries-from-test (e ∷ es) [] h = absurd (false≢true h)
+entries-from-test (e ∷ es) (g ∷ gs) h =
+    let s = and-split (eqb (e .support) (g .support) && rows-same (e .code) (g .code)) (same-entries es gs) h in
+    let t = and-split (eqb (e .support) (g .support)) (rows-same (e .code) (g .code)) (s .0) in
+    ap₂ {C = List Entry} (λ a b. a ∷ b)
+    (entry-eq e g (eqb-true (e .support) (g .support) (t .0)) (rows-same-from-test (e .code) (g .code) (t .1)))
+    (entries-from-test es gs (s .1))
+
 pub meets-holds : (c : Case) → meets c ≡ true → Holds c
 unfolding meets Holds
 meets-holds (coded bs rs) h =
@@ -185,6 +220,12 @@ meets-holds (not-contained ps ds) h =
     let t = and-split (accepted ds) (not (contains p d)) (s .1) in
     let ends = accepted-pattern ps (s .0) .simple .ends in
     (s .0, t .0, λ g m. true-and-false (contains-from-embedding p d g ends (embedding-from-test p d g m)) (not-true (contains p d) (t .1)))
+meets-holds (catalogued bs s l es) h =
+    let grown = mined-entries kinds-before (survey bs) s l in
+    let t = and-split (byte-list bs) (eqb (survey-refusal bs s l .number) 0 && same-entries grown es) h in
+    let u = and-split (eqb (survey-refusal bs s l .number) 0) (same-entries grown es) (t .1) in
+    let fine = eqb-true (survey-refusal bs s l .number) 0 (u .0) in
+    (t .0, fine, subst (Catalogue (survey bs) s l) (entries-from-test grown es (u .1)) (catalogue-mined bs s l fine))
 
 all-hold : (cs : List Case) → all-meet cs ≡ true → (c : Case) → Mem c cs → Holds c
 unfolding all-meet

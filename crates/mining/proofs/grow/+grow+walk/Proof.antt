@@ -1,0 +1,280 @@
+-- `grow::grow` and `grow::walk` meet their contracts. The walk's invariant: what goes on by the candidates below k is listed.
+-- Assumes nothing.
+use mathlib.Core.Path.{_≡_, refl, sym, ap, _∙_, subst}
+use Prim.Native.Nat.{ℕ, _+_, _*_, _-_, _/_, _^_, _<_, _≤_}
+use native.Mathlib.Omega.{arith}
+use borrow.Author.Needs.{needs}
+use lib.ListN.{getD}
+use Rattle.codes.specs.Code.{Rec}
+use Rattle.growth.specs.Places.{record-at}
+use Rattle.mining.specs.Growings.{records-of, basis, Grows}
+use Rattle.mining.specs.Growths.{On-the-way, Grew, Put}
+use Rattle.mining.specs.GrowLaws.{took-passed, took-full, took-written, grow-takes-up, grow-passed, grow-full, grow-leaf, grow-counts, grow-chooses, grow-walks, grow-went}
+use Rattle.mining.specs.WalkOnLaws.{walk-reads, walk-grows, walk-grows-on, walk-full, walk-next, walk-starts, walk-ends}
+use borrow.Fn.Kinds.{In}
+use borrow.Fn.PlainCycle.{Measures, is, falls, and}
+use Rattle.mining.proofs.grow.grow.Reads as grow
+use Rattle.mining.proofs.grow.grow.Kinds as grow-kinds
+use Rattle.mining.proofs.grow.+grow+walk.Lts-grow as grow-lts
+use Rattle.mining.proofs.grow.walk.Reads as walk
+use Rattle.mining.proofs.grow.walk.Kinds as walk-kinds
+use Rattle.mining.proofs.grow.+grow+walk.Lts-walk as walk-lts
+use Rattle.mining.proofs.choose.choose.Reads as choose-reads
+use Rattle.mining.proofs.count.count_extensions.Reads as count-extensions-reads
+use Rattle.mining.proofs.grow.take_up.Reads as take-up-reads
+use Rattle.mining.proofs.growing.grown.Reads as grown-reads
+use Rattle.mining.proofs.growing.next_record.Reads as next-record-reads
+use Rattle.mining.proofs.grow.+grow+walk.{statement}
+use Rattle.mining.proofs.grow.+grow+walk.Tie.{close}
+
+-- twice the size left, and one less for a walk, which grows what is larger
+abbrev μ-grow : Measures 8 grow-kinds.ps ℕ
+μ-grow κs a = 2 * (a .1 .1 .1 .1 .0 .limit - a .1 .1 .1 .1 .1 .0 .code .count)
+
+abbrev μ-walk : Measures 8 walk-kinds.ps ℕ
+μ-walk κs a = 2 * (a .1 .1 .1 .1 .0 .limit - a .1 .1 .1 .1 .1 .0 .code .count) - 1
+
+abbrev grow-at : ℕ → In 8 grow-kinds.ps
+grow-at t = and 8 grow-kinds.ps (is 8 grow-kinds.ps μ-grow t) grow.Pre
+
+abbrev grow-below : ℕ → In 8 grow-kinds.ps
+grow-below t = and 8 grow-kinds.ps (falls 8 grow-kinds.ps _<_ μ-grow t) grow.Pre
+
+abbrev walk-at : ℕ → In 8 walk-kinds.ps
+walk-at t = and 8 walk-kinds.ps (is 8 walk-kinds.ps μ-walk t) walk.Pre
+
+abbrev walk-below : ℕ → In 8 walk-kinds.ps
+walk-below t = and 8 walk-kinds.ps (falls 8 walk-kinds.ps _<_ μ-walk t) walk.Pre
+
+abbrev grow-claims : ℕ → grow-lts.Claims
+grow-claims t = (
+  take-up-reads.Asked,
+  take-up-reads.Learnt,
+  count-extensions-reads.Asked,
+  count-extensions-reads.Learnt,
+  choose-reads.Asked,
+  choose-reads.Learnt,
+  walk-below t,
+  walk.Post,
+)
+
+abbrev walk-claims : ℕ → walk-lts.Claims
+walk-claims t = (
+  next-record-reads.Asked,
+  next-record-reads.Learnt,
+  grown-reads.Asked,
+  grown-reads.Learnt,
+  grow-below t,
+  grow.Post,
+)
+
+grow-take-up-requires : (t : ℕ) → grow-lts.Need-take-up-requires (grow-claims t) (grow-at t) grow.Post
+grow-take-up-requires t c κs = grow-takes-up (c .before .before .before .pre .1)
+
+grow-enum-told : (t : ℕ) → grow-lts.Need-enum-told (grow-claims t) (grow-at t) grow.Post
+grow-enum-told t c = search needs
+
+grow-same-length : (t : ℕ) → grow-lts.Need-same-length (grow-claims t) (grow-at t) grow.Post
+grow-same-length t c = search needs
+
+grow-returns : (t : ℕ) → grow-lts.Need-returns (grow-claims t) (grow-at t) grow.Post
+grow-returns t c =
+    let s = c .before .before .before .before .before .before .before .before in
+    let p = took-passed (s .args .held) (s .args .cell) (s .args .count) (s .args .output .now) (c .before .before .before .before .take-up .last .1 .1 .0) (c .enum-told .given .1) (c .before .before .before .before .take-up .ensures) in
+    grow-passed (s .pre .1) (p .not-least) _ (p .same)
+
+grow-enum-told-2 : (t : ℕ) → grow-lts.Need-enum-told-2 (grow-claims t) (grow-at t) grow.Post
+grow-enum-told-2 t c = search needs
+
+grow-same-length-2 : (t : ℕ) → grow-lts.Need-same-length-2 (grow-claims t) (grow-at t) grow.Post
+grow-same-length-2 t c = search needs
+
+grow-returns-2 : (t : ℕ) → grow-lts.Need-returns-2 (grow-claims t) (grow-at t) grow.Post
+grow-returns-2 t c =
+    let s = c .before .before .before .before .before .before .before .before in
+    let p = took-full (s .args .held) (s .args .cell) (s .args .count) (s .args .output .now) (c .before .before .before .before .take-up .last .1 .1 .0) (c .enum-told2 .given .1) (c .before .before .before .before .take-up .ensures) in
+    grow-full (s .pre .1) (p .least) (p .short) _ (p .same)
+
+grow-enum-told-3 : (t : ℕ) → grow-lts.Need-enum-told-3 (grow-claims t) (grow-at t) grow.Post
+grow-enum-told-3 t c = search needs
+
+-- its entry is written
+written :
+    (t : ℕ) (c : grow-lts.After-enum-told3 (grow-claims t) (grow-at t) grow.Post)
+    → let s = c .before .before .before .before .before .before .before .before in
+    Put (records-of (s .args .held)) (s .args .cell) (s .args .count) (s .args .output .now) (c .before .before .before .before .take-up .last .1 .1 .0)
+written t c =
+    let s = c .before .before .before .before .before .before .before .before in
+    took-written (s .args .held) (s .args .cell) (s .args .count) (s .args .output .now) (c .before .before .before .before .take-up .last .1 .1 .0) (c .enum-told3 .given .1) (c .before .before .before .before .take-up .ensures)
+
+grow-add-t24 : (t : ℕ) → grow-lts.Need-add-t24 (grow-claims t) (grow-at t) grow.Post
+grow-add-t24 t c = omega (arith, written t (c .before .before .before) .low)
+
+grow-same-length-3 : (t : ℕ) → grow-lts.Need-same-length-3 (grow-claims t) (grow-at t) grow.Post
+grow-same-length-3 t c = search needs
+
+grow-returns-3 : (t : ℕ) → grow-lts.Need-returns-3 (grow-claims t) (grow-at t) grow.Post
+grow-returns-3 t c =
+    let s = c .before .before .before .before .before .before .before .before .before .before .before in
+    grow-leaf (s .pre .1) (written t (c .before .before .before)) (c .if1 .taken)
+
+grow-count-extensions-requires : (t : ℕ) → grow-lts.Need-count-extensions-requires (grow-claims t) (grow-at t) grow.Post
+grow-count-extensions-requires t c κs =
+    let s = c .before .before .before .before .before .before .before .before .before .before .before .before .before .before .before in (
+      record { alphabet = s .args .alphabet .now; prepared = s .pre .1 .set-up .prepared },
+      grow-counts (s .pre .1) (written t (c .before .before .before .before .before .before .before)) (c .before .before .before .before .if1 .left),
+      s .pre .1 .at-hand .blank,
+    )
+
+grow-choose-requires : (t : ℕ) → grow-lts.Need-choose-requires (grow-claims t) (grow-at t) grow.Post
+grow-choose-requires t c κs =
+    let s = c .before .before .before .before .before .before .before .before .before .before .before .before .before .before .before .before .before .before .before in
+    grow-chooses (s .pre .1) (written t (c .before .before .before .before .before .before .before .before .before .before .before)) (c .before .before .before .before .before .before .before .before .if1 .left) (c .before .before .before .count-extensions .ensures)
+
+grow-add-walk : (t : ℕ) → grow-lts.Need-add-walk (grow-claims t) (grow-at t) grow.Post
+grow-add-walk t c = omega (arith, written t (c .before .before .before .before .before .before .before .before .before .before .before .before .before .before .before .before) .low)
+
+grow-walk-requires : (t : ℕ) → grow-lts.Need-walk-requires (grow-claims t) (grow-at t) grow.Post
+grow-walk-requires t c κs =
+    let s = c .before .before .before .before .before .before .before .before .before .before .before .before .before .before .before .before .before .before .before .before .before .before .before .before in (
+      omega (arith, s .pre .0, s .pre .1 .most, c .before .before .before .before .before .before .before .before .before .before .before .before .before .if1 .left),
+      grow-walks (s .pre .1) (written t (c .before .before .before .before .before .before .before .before .before .before .before .before .before .before .before .before)) (c .before .before .before .before .before .before .before .before .before .before .before .before .before .if1 .left) (c .before .before .before .before .before .before .before .before .count-extensions .ensures) (c .before .before .before .before .choose .ensures),
+    )
+
+grow-returns-4 : (t : ℕ) → grow-lts.Need-returns-4 (grow-claims t) (grow-at t) grow.Post
+grow-returns-4 t c =
+    let s = c .before .before .before .before .before .before .before .before .before .before .before .before .before .before .before .before .before .before .before .before .before .before .before .before .before .before .before in
+    grow-went (s .pre .1) (written t (c .before .before .before .before .before .before .before .before .before .before .before .before .before .before .before .before .before .before .before)) (c .before .before .before .before .before .before .before .before .before .before .before .before .before .before .before .before .if1 .left) (c .before .before .before .before .before .before .before .before .before .before .before .count-extensions .ensures) (c .before .before .before .before .before .before .before .choose .ensures)
+    (c .before .before .walk .ensures)
+
+grow-same-length-4 : (t : ℕ) → grow-lts.Need-same-length-4 (grow-claims t) (grow-at t) grow.Post
+grow-same-length-4 t c = grow-returns-4 t c .size
+
+abbrev walk-Inv-loop : walk-lts.InvT-loop
+walk-Inv-loop survey labels rank alphabet settings held kind cells₀ seen₀ list₀ from top output₀ count written₀ k₀ cells seen list output written k =
+    On-the-way survey alphabet settings kind (records-of held) list₀ from top output₀ count k cells seen list output written
+
+abbrev walk-μ-loop : walk-lts.MeasureT-loop
+walk-μ-loop survey labels rank alphabet settings held kind cells₀ seen₀ list₀ from top output₀ count written₀ k₀ cells seen list output written k =
+    top - k
+
+walk-loop-holds : (t : ℕ) → walk-lts.Need-loop-holds (walk-claims t) (walk-at t) walk.Post walk-Inv-loop walk-μ-loop
+walk-loop-holds t c = walk-starts (c .before .before .pre .1)
+
+walk-mul-candidate : (t : ℕ) → walk-lts.Need-mul-candidate (walk-claims t) (walk-at t) walk.Post walk-Inv-loop walk-μ-loop
+walk-mul-candidate t c = search needs
+
+walk-element-copy-out-candidate : (t : ℕ) → walk-lts.Need-element-copy-out-candidate (walk-claims t) (walk-at t) walk.Post walk-Inv-loop walk-μ-loop
+walk-element-copy-out-candidate t c = search needs
+
+walk-next-record-requires : (t : ℕ) → walk-lts.Need-next-record-requires (walk-claims t) (walk-at t) walk.Post walk-Inv-loop walk-μ-loop
+walk-next-record-requires t c κs =
+    let s = c .before .before .before .before .before in
+    let l = c .before .before .loop in
+    (s .args .rank .now, walk-reads (s .pre .1) (l .k) (l .inv .low) (c .before .loop-test .taken) _ (l .inv .kept .below (l .k) (c .before .loop-test .taken)))
+
+walk-grown-requires : (t : ℕ) → walk-lts.Need-grown-requires (walk-claims t) (walk-at t) walk.Post walk-Inv-loop walk-μ-loop
+walk-grown-requires t c κs =
+    let s = c .before .before .before .before .before .before in
+    let l = c .before .before .before .loop in
+    walk-grows (s .pre .1) (l .k) (l .inv .low) (c .before .before .loop-test .taken) _ (l .inv .kept .below (l .k) (c .before .before .loop-test .taken)) _ (c .next-record .ensures)
+
+-- the code grown by the candidate's record
+turn :
+    (t : ℕ) (c : walk-lts.After-grown (walk-claims t) (walk-at t) walk.Post walk-Inv-loop walk-μ-loop)
+    → let s = c .before .before .before .before .before .before .before in
+    let l = c .before .before .before .before .loop in
+    Grows (s .args .held)
+    (record-at (basis (s .args .kind) (records-of (s .args .held))) (s .args .alphabet .now) (s .args .settings .labels) (getD (l .list) (l .k) 0 / (2 ^ 40)))
+    (c .grown .result)
+turn t c =
+    let s = c .before .before .before .before .before .before .before in
+    subst (λ (e : Rec). Grows (s .args .held) e (c .grown .result)) (c .before .next-record .ensures) (c .grown .ensures)
+
+walk-grow-requires : (t : ℕ) → walk-lts.Need-grow-requires (walk-claims t) (walk-at t) walk.Post walk-Inv-loop walk-μ-loop
+walk-grow-requires t c κs =
+    let s = c .before .before .before .before .before .before .before .before .before .before .before in
+    let l = c .before .before .before .before .before .before .before .before .loop in
+    let r = turn t (c .before .before .before .before) in (
+      omega (arith, s .pre .0, s .pre .1 .more, r .count),
+      walk-grows-on (s .pre .1) (l .k) (l .inv .low) (c .before .before .before .before .before .before .before .loop-test .taken) _ (l .inv .kept .below (l .k) (c .before .before .before .before .before .before .before .loop-test .taken)) r (l .inv),
+    )
+
+walk-enum-known-n : (t : ℕ) → walk-lts.Need-enum-known-n (walk-claims t) (walk-at t) walk.Post walk-Inv-loop walk-μ-loop
+walk-enum-known-n t c = search needs
+
+walk-enum-told : (t : ℕ) → walk-lts.Need-enum-told (walk-claims t) (walk-at t) walk.Post walk-Inv-loop walk-μ-loop
+walk-enum-told t c = search needs
+
+walk-same-length : (t : ℕ) → walk-lts.Need-same-length (walk-claims t) (walk-at t) walk.Post walk-Inv-loop walk-μ-loop
+walk-same-length t c = search needs
+
+walk-returns : (t : ℕ) → walk-lts.Need-returns (walk-claims t) (walk-at t) walk.Post walk-Inv-loop walk-μ-loop
+walk-returns t c =
+    let s = c .before .before .before .before .before .before .before .before .before .before .before .before .before .before .before .before in
+    let l = c .before .before .before .before .before .before .before .before .before .before .before .before .before .loop in
+    walk-full (s .pre .1) (l .k) (l .inv .low) (c .before .before .before .before .before .before .before .before .before .before .before .before .loop-test .taken) _ (l .inv .kept .below (l .k) (c .before .before .before .before .before .before .before .before .before .before .before .before .loop-test .taken)) (turn t (c .before .before .before .before .before .before .before .before .before)) (l .inv)
+    (rw (c .enum-told .given .1) at (c .before .before .before .before .grow .ensures))
+
+walk-add-k : (t : ℕ) → walk-lts.Need-add-k (walk-claims t) (walk-at t) walk.Post walk-Inv-loop walk-μ-loop
+walk-add-k t c =
+    let a = c .before .before .before .before .before .before .before .before .before .before .before .before .before .before .before .before .before .pre .1 in
+    omega (arith, c .before .before .before .before .before .before .before .before .before .before .before .before .before .loop-test .taken, a .at-hand .room, a .more, a .set-up .small)
+
+walk-loop-less : (t : ℕ) → walk-lts.Need-loop-less (walk-claims t) (walk-at t) walk.Post walk-Inv-loop walk-μ-loop
+walk-loop-less t c = search needs
+
+walk-loop-again : (t : ℕ) → walk-lts.Need-loop-again (walk-claims t) (walk-at t) walk.Post walk-Inv-loop walk-μ-loop
+walk-loop-again t c =
+    let s = c .before .before .before .before .before .before .before .before .before .before .before .before .before .before .before .before .before in
+    let l = c .before .before .before .before .before .before .before .before .before .before .before .before .before .before .loop in
+    walk-next (s .pre .1) (l .k) (l .inv .low) (c .before .before .before .before .before .before .before .before .before .before .before .before .before .loop-test .taken) _ (l .inv .kept .below (l .k) (c .before .before .before .before .before .before .before .before .before .before .before .before .before .loop-test .taken)) (turn t (c .before .before .before .before .before .before .before .before .before .before)) (l .inv)
+    (rw (c .before .n .given .1) at (c .before .before .before .before .before .grow .ensures))
+
+walk-same-length-2 : (t : ℕ) → walk-lts.Need-same-length-2 (walk-claims t) (walk-at t) walk.Post walk-Inv-loop walk-μ-loop
+walk-same-length-2 t c = search needs
+
+walk-returns-2 : (t : ℕ) → walk-lts.Need-returns-2 (walk-claims t) (walk-at t) walk.Post walk-Inv-loop walk-μ-loop
+walk-returns-2 t c = walk-ends (c .before .before .before .before .pre .1) (omega (arith, c .loop-test .left)) (c .before .loop .inv)
+
+pub +grow+walk-spec : {M : Type 1} → statement M
++grow+walk-spec = close μ-grow μ-walk (λ t. grow-lts.spec (grow-claims t)
+    (grow-at t)
+    grow.Post
+    (grow-take-up-requires t)
+    (grow-enum-told t)
+    (grow-same-length t)
+    (grow-returns t)
+    (grow-enum-told-2 t)
+    (grow-same-length-2 t)
+    (grow-returns-2 t)
+    (grow-enum-told-3 t)
+    (grow-add-t24 t)
+    (grow-same-length-3 t)
+    (grow-returns-3 t)
+    (grow-count-extensions-requires t)
+    (grow-choose-requires t)
+    (grow-add-walk t)
+    (grow-walk-requires t)
+    (grow-same-length-4 t)
+    (grow-returns-4 t))
+    λ t. walk-lts.spec (walk-claims t)
+    (walk-at t)
+    walk.Post
+    walk-Inv-loop
+    walk-μ-loop
+    (walk-loop-holds t)
+    (walk-mul-candidate t)
+    (walk-element-copy-out-candidate t)
+    (walk-next-record-requires t)
+    (walk-grown-requires t)
+    (walk-grow-requires t)
+    (walk-enum-known-n t)
+    (walk-enum-told t)
+    (walk-same-length t)
+    (walk-returns t)
+    (walk-add-k t)
+    (walk-loop-less t)
+    (walk-loop-again t)
+    (walk-same-length-2 t)
+    (walk-returns-2 t)

@@ -1,0 +1,153 @@
+-- A code that grows, as the program holds it: nothing held yet, where the next record starts from, one record more, and
+-- what the least test says of the bytes held. Rests on the readings of coding and the rows of codes. Assumes nothing.
+use mathlib.Core.Path.{_≡_, sym, ap, _∙_, subst}
+use mathlib.Core.List.{List, [], _∷_, map}
+use Prim.Native.Nat.{ℕ, _*_, _-_, _/_, _%_, _≤_}
+use native.Mathlib.Nat.{sub-zero}
+use native.Mathlib.Omega.{arith}
+use lib.ListN.{length, take, drop, take-append-drop}
+use lib.Seq.{length-take-le}
+use borrow.Author.Tests.{eq-eqb, ne-eqb, le-ltb}
+use Rattle.laws.specs.Rows.{rows, rows-front}
+use Rattle.laws.specs.Tests.{true-and-false}
+use Rattle.codes.specs.Code.{
+  Rec,
+  Reading,
+  fresh,
+  rec-in,
+  recs-in,
+  code-records,
+  stepped,
+  rows-refusal,
+  read-rows,
+  code-refusal,
+}
+use Rattle.codes.specs.Rows.{First-row, rows-cons, rows-split, read-snoc}
+use Rattle.codes.specs.CodeBytes.{recs-in-length}
+use Rattle.records.specs.declared.refusal.Checked.{Checked}
+use Rattle.records.specs.declared.refusal.Checked.the-variants.{Accepted}
+use Rattle.coding.specs.declared.reading.Reading as held
+use Rattle.coding.specs.declared.reading.Step.{Step}
+use Rattle.coding.specs.declared.reading.Step.the-variants.{NotPermitted}
+use Rattle.coding.specs.declared.answer.Verdict.{Verdict}
+use Rattle.coding.specs.Readings as readings
+use Rattle.coding.specs.Readings.{as-reading, code-checked, Not-begun, Begun, Sound, Step-says, Can-take, Steps}
+use Rattle.coding.specs.ReadingLaws.{devices-some}
+use Rattle.coding.specs.CheckLaws.{accepted-checked}
+use Rattle.coding.specs.LeastSays.{Least-answer, Least-says}
+use Rattle.growth.specs.PlacedRecords.{alone}
+use Rattle.mining.specs.Growings.{records-of, Holding, basis, Can-grow, Grows}
+
+pub records-length : (h : held.Reading) → length (records-of h) ≡ h .code .count
+records-length h = recs-in-length (h .code .count) (h .code .records)
+
+module _ {h : held.Reading} where
+  -- NOTHING HELD YET
+  pub no-records : Not-begun h → records-of h ≡ []
+  unfolding recs-in rows
+  no-records n = ap (λ (m : ℕ). recs-in m (h .code .records)) (n .no-record)
+
+  pub holding-new : Not-begun h → Holding h
+  unfolding read-rows
+  holding-new n =
+      record {
+        is = n .is ∙ ap (read-rows fresh) (sym (no-records n));
+        sound = readings.not-begun n;
+        most = omega (arith, n .no-record);
+      }
+
+  -- WHERE THE NEXT RECORD STARTS FROM: a lone device, or what is held
+  module _ (kind : ℕ) (p : Holding h) where
+    pub basis-alone : h .devices ≡ 0 → basis kind (records-of h) ≡ alone kind
+    basis-alone none = go (p .sound)
+      where
+        go : Sound h → basis kind (records-of h) ≡ alone kind
+        go (readings.not-begun n) = ap (basis kind) (no-records n)
+        go (readings.begun b) = absurd (omega (arith, devices-some h b))
+
+    pub basis-held : Begun h → basis kind (records-of h) ≡ as-reading h
+    unfolding read-rows fresh
+    basis-held b = go (records-of h) (p .is)
+      where
+        go : (rs : List Rec) → as-reading h ≡ read-rows fresh rs → basis kind rs ≡ as-reading h
+        go [] e = absurd (omega (arith, b .invariant .two, ap (λ (x : Reading). length (x .kinds)) e))
+        go (r ∷ rs) e = sym e
+
+-- ONE RECORD MORE
+module _ {h : held.Reading} {e : Rec} (g : Can-grow h e) where
+  next-row : First-row (as-reading h) e []
+  next-row =
+      subst (λ (x : Reading). First-row x e []) (sym (g .holding .is))
+      (rows-cons _ e [] (rows-split fresh (records-of h) (e ∷ []) (g .accepted) .1))
+
+  pub grow-takes : Can-take h e
+  grow-takes = record { sound = g .holding .sound; good = next-row .step; kinds = next-row .kinds; room = g .room }
+
+  -- it is a permitted step
+  pub grow-permitted : (s : Step) → s ≡ NotPermitted → Step-says h e s → ⊥
+  unfolding Step-says
+  grow-permitted s is q = true-and-false (next-row .step) (subst (Step-says h e) is q)
+
+  pub grow-steps : (r : held.Reading) → Steps h e r → Grows h e r
+  grow-steps r s =
+      record {
+        holding =
+            record {
+              is =
+                  s .is ∙ ap (λ (x : Reading). stepped x e) (g .holding .is) ∙ sym (read-snoc fresh (records-of h) e)
+                  ∙ ap (read-rows fresh) (sym (s .records));
+              sound = readings.begun (s .begun);
+              most = omega (arith, s .count, g .room);
+            };
+        records = s .records;
+        count = s .count;
+      }
+
+-- THE BYTES OF m RECORDS at the front of an array
+module _ (bs : List ℕ) (m : ℕ) (room : 5 * m ≤ length bs) where
+  pub front-length : length (take (5 * m) bs) ≡ 5 * m
+  front-length = length-take-le (5 * m) bs room
+
+  front-count : length (take (5 * m) bs) / 5 ≡ m
+  front-count = omega (arith, front-length)
+
+  pub front-records : code-records (take (5 * m) bs) ≡ recs-in m bs
+  unfolding recs-in
+  front-records =
+      ap (λ (k : ℕ). recs-in k (take (5 * m) bs)) front-count
+      ∙ ap (map rec-in)
+      (sym (rows-front 5 m (take (5 * m) bs) (drop (5 * m) bs) (omega (arith, front-length))) ∙ ap (rows 5 m) (take-append-drop (5 * m) bs))
+
+  pub front-accepted : 1 ≤ m → m ≤ 20 → rows-refusal fresh (recs-in m bs) ≡ 0 → code-refusal (take (5 * m) bs) ≡ 0
+  unfolding code-refusal
+  front-accepted one most ok =
+      let n = length (take (5 * m) bs) in
+      rw (ne-eqb n 0 (λ z. omega (arith, front-length)), le-ltb 100 n (omega (arith, front-length)), eq-eqb (n % 5) 0 (omega (arith, front-length)), front-records)
+      ok
+
+-- WHAT THE LEAST TEST SAYS of the bytes of the records held
+module _ {h : held.Reading} (p : Holding h) (m : ℕ) (count : h .code .count ≡ m) (long : length (h .code .records) ≡ 100) where
+  abbrev part : List ℕ
+  part = take (5 * m) (h .code .records)
+
+  enough : 5 * m ≤ length (h .code .records)
+  enough = omega (arith, p .most)
+
+  pub code-part : code-records (take (5 * m) (h .code .records)) ≡ records-of h
+  code-part = front-records (h .code .records) m enough ∙ ap (λ (k : ℕ). recs-in k (h .code .records)) (sym count)
+
+  module _ (one : 1 ≤ m) (ok : rows-refusal fresh (records-of h) ≡ 0) where
+    pub part-accepted : code-checked (take (5 * m) (h .code .records)) ≡ Accepted
+    part-accepted =
+        accepted-checked part
+        (front-accepted (h .code .records) m enough one (omega (arith, p .most))
+        (subst (λ (k : ℕ). rows-refusal fresh (recs-in k (h .code .records)) ≡ 0) count ok))
+
+    pub least-told : (v : Verdict) → Least-says (take (5 * m) (h .code .records)) v → Least-answer Accepted (records-of h) v
+    least-told v s =
+        subst (λ (rs : List Rec). Least-answer Accepted rs v) code-part
+        (subst (λ (c : Checked). Least-answer c (code-records part) v) part-accepted s)
+
+    -- where they are lent as a part that starts at 0
+    pub least-told-from-zero : (v : Verdict) → Least-says (take (5 * m - 0) (drop 0 (h .code .records))) v → Least-answer Accepted (records-of h) v
+    least-told-from-zero v s = least-told v (subst (λ (k : ℕ). Least-says (take k (h .code .records)) v) (sub-zero (5 * m)) s)

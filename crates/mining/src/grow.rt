@@ -1,0 +1,169 @@
+// Growing a pattern and walking its next cables, which call each other: a pattern that is frequent and whose code is the
+// least is written, and grown by every cable that may come next, in rising order, up to the size limit.
+use crate::cells::ONE_MORE;
+use crate::cells::PLACES;
+use crate::choose::CANDIDATES;
+use crate::choose::PLACE;
+use crate::choose::choose;
+use crate::count::count_extensions;
+use crate::entry::put_entry;
+use crate::growing::grown;
+use crate::growing::next_record;
+use crate::mark::LABELS;
+use coding::answer::Verdict;
+use coding::least::is_least;
+use coding::reading::Reading;
+use records::code::Code;
+use records::entry::Entry;
+ghost use Rattle.mining.specs.Growths.{Can-take-up, Took-up, Can-grow-on, Grew, Can-walk-on, Went};
+ghost use Rattle.mining.specs.Growings.{records-of};
+
+// What a catalogue is asked for: the number of the survey's labels, how many drawings have to contain a pattern, and how
+// many cables it may have.
+pub struct Settings {
+    pub labels: usize,
+    pub threshold: usize,
+    pub limit: usize,
+}
+
+// How many entries stand in the output, or that the next one does not fit.
+pub enum Growth {
+    To(usize),
+    Full,
+}
+
+// What becomes of a candidate: its code is not the least, its entry does not fit, or its entry is written.
+enum Taken {
+    Passed,
+    Full,
+    Written,
+}
+
+// Writes the entry of a candidate whose code is the least.
+fn take_up(held: Reading, cell: u64, output: &mut [u8], count: usize) -> Taken
+    requires { ⌜ Can-take-up held cell (now output) count ⌝ }
+    ensures { λ r. ⌜ Took-up held cell count (now (output .entry)) r (now (output .exit)) ⌝ }
+{
+    let code = held.code;
+    let bytes = code.records;
+    let end = Code::RECORD_BYTES * code.count;
+    match is_least(&bytes[..end]) {
+        Verdict::Yes => {}
+        Verdict::No => return Taken::Passed,
+        Verdict::Refused(_) => return Taken::Passed,
+    }
+    if output.len() - Entry::BYTES * count < Entry::BYTES {
+        return Taken::Full;
+    }
+    put_entry(
+        &bytes,
+        code.count,
+        (cell / ONE_MORE) as usize,
+        count,
+        output,
+    );
+    Taken::Written
+}
+
+// Grows the pattern of the code held, which the drawings of a cell contain.
+pub fn grow(
+    survey: &[u8],
+    labels: &[u32; 3200],
+    rank: &[u16; LABELS],
+    alphabet: &[u32; 1280],
+    settings: Settings,
+    held: Reading,
+    cell: u64,
+    cells: &mut [u64; PLACES],
+    seen: &mut [u16; PLACES],
+    list: &mut [u64; CANDIDATES],
+    base: usize,
+    output: &mut [u8],
+    count: usize,
+) -> Growth
+    requires { ⌜ Can-grow-on (now survey) (now labels) (now rank) (now alphabet) settings held cell
+        (now cells) (now seen) (now list) base (now output) count ⌝ }
+    ensures { λ r. ⌜ Grew (now (survey .entry)) settings (records-of held) (now (cells .exit)) (now (seen .exit))
+        (now (list .entry)) base (now (list .exit)) (now (output .entry)) count r (now (output .exit)) ⌝ }
+{
+    match take_up(held, cell, output, count) {
+        Taken::Passed => return Growth::To(count),
+        Taken::Full => return Growth::Full,
+        Taken::Written => {}
+    }
+    let code = held.code;
+    let cables = code.count;
+    if cables == settings.limit {
+        return Growth::To(count + 1);
+    }
+    let bytes = code.records;
+    let n = settings.labels;
+    let found = count_extensions(survey, labels, rank, n, &bytes, cables, cell, cells, seen);
+    let top = choose(cells, seen, found, settings.threshold, list, base);
+    walk(
+        survey,
+        labels,
+        rank,
+        alphabet,
+        settings,
+        held,
+        0,
+        cells,
+        seen,
+        list,
+        base,
+        top,
+        output,
+        count + 1,
+    )
+}
+
+// Grows the code held by each candidate of a part of the list in turn. A loop and no call for each: there may be 20,480.
+pub fn walk(
+    survey: &[u8],
+    labels: &[u32; 3200],
+    rank: &[u16; LABELS],
+    alphabet: &[u32; 1280],
+    settings: Settings,
+    held: Reading,
+    kind: u8,
+    cells: &mut [u64; PLACES],
+    seen: &mut [u16; PLACES],
+    list: &mut [u64; CANDIDATES],
+    from: usize,
+    top: usize,
+    output: &mut [u8],
+    count: usize,
+) -> Growth
+    requires { ⌜ Can-walk-on (now survey) (now labels) (now rank) (now alphabet) settings held kind
+        (now cells) (now seen) (now list) from top (now output) count ⌝ }
+    ensures { λ r. ⌜ Went (now (survey .entry)) (now (alphabet .entry)) settings kind (records-of held)
+        (now (cells .exit)) (now (seen .exit)) (now (list .entry)) from top (now (list .exit))
+        (now (output .entry)) count r (now (output .exit)) ⌝ }
+{
+    let mut written = count;
+    for k in from..top {
+        let candidate = list[k];
+        let place = (candidate / PLACE) as usize;
+        let next = next_record(held, kind, alphabet, settings.labels, place);
+        let Growth::To(n) = grow(
+            survey,
+            labels,
+            rank,
+            alphabet,
+            settings,
+            grown(held, next),
+            candidate % PLACE,
+            cells,
+            seen,
+            list,
+            top,
+            output,
+            written,
+        ) else {
+            return Growth::Full;
+        };
+        written = n;
+    }
+    Growth::To(written)
+}

@@ -43,3 +43,6 @@ pub mod FirstPlaces
 pub mod FirstPlaceLaws
 pub mod NextRecordLaws
 pub mod VerdictLaws
+pub mod Mines
+pub mod MineLaws
+pub mod WriteLaws

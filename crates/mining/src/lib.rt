@@ -1,14 +1,16 @@
-// Mining: what the search for the patterns of a survey rests on. Its functions ask of their callers what `requires` says;
-// the entries of the crates above ask nothing.
+// Mining: the catalogue of a survey. Only the call and its answer are open to other crates; what the modules behind it ask
+// of their callers stands in their `requires`.
 pub mod answer; // answer.rt: what writing a catalogue answers
-pub mod entry; // entry.rt: one entry of a catalogue written into its own bytes
-pub mod tables; // tables.rt: the tables of labels of a survey's drawings
-pub mod ranks; // ranks.rt: the labels of a survey numbered in rising order
-pub mod cells; // cells.rt: the table of cells, one for each place, and the list of places seen
-pub mod mark; // mark.rt: the places of the records that go on from a branch
-pub mod step; // step.rt: one record of a code as a step from a branch
-pub mod visit; // visit.rt: the walk over all numberings of a code in a drawing
-pub mod choose; // choose.rt: the candidates taken out of the cells
-pub mod count; // count.rt: the cells counted over all drawings
-pub mod growing; // growing.rt: a code that grows
-pub mod grow; // grow.rt: growing a pattern and walking its next cables
+pub mod catalogue; // catalogue.rt: the catalogue of a survey
+mod mine; // mine.rt: all patterns of a survey, kind by kind of device 0
+mod grow; // grow.rt: growing a pattern and walking its next cables
+mod growing; // growing.rt: a code that grows, and the record at a place
+mod choose; // choose.rt: the candidates taken out of the cells, rising
+mod count; // count.rt: the cells counted over all drawings
+mod visit; // visit.rt: the walk over all numberings of a code in a drawing
+mod step; // step.rt: one record of a code as a step from a branch
+mod mark; // mark.rt: the places of the records that go on from a branch
+mod cells; // cells.rt: the table of cells, one for each place, and the list of places seen
+mod ranks; // ranks.rt: the labels of a survey numbered in rising order
+mod tables; // tables.rt: the tables of labels of a survey's drawings
+mod entry; // entry.rt: one entry of a catalogue written into its own bytes

@@ -1,0 +1,82 @@
+// The catalogue of a survey: every pattern that enough drawings contain, with its least code and its support.
+use crate::answer::Catalogued;
+use crate::cells::PLACES;
+use crate::choose::CANDIDATES;
+use crate::entry::clear;
+use crate::grow::Growth;
+use crate::grow::Settings;
+use crate::mark::LABELS;
+use crate::mine::mine;
+use crate::ranks::rank_labels;
+use crate::tables::fill_labels;
+use records::entry::Entry;
+use records::refusal::Refusal;
+use records::survey::Survey;
+use records::survey::SurveyChecked;
+use records::survey::check_survey;
+ghost use Prim.Native.Nat.{_<_};
+ghost use Rattle.mining.specs.CatalogueSays.{Catalogue-says};
+ghost use Rattle.mining.specs.WriteLaws.{Accepted-call, Writes};
+
+// Writes the catalogue of an accepted survey. The tables stand here and are lent on; there is no heap.
+fn write_accepted(survey: &[u8], threshold: usize, limit: usize, output: &mut [u8]) -> Catalogued
+    requires { ⌜ Accepted-call (now survey) threshold limit ⌝ }
+    ensures { λ r. ⌜ Writes (now (survey .entry)) threshold limit (now (output .entry)) r (now (output .exit)) ⌝ }
+{
+    let mut labels = [0; 3200];
+    fill_labels(survey, &mut labels);
+    let mut rank = [0; LABELS];
+    let mut alphabet = [0; 1280];
+    let n = rank_labels(survey, &mut rank, &mut alphabet);
+    let settings = Settings {
+        labels: n,
+        threshold,
+        limit,
+    };
+    let mut cells = [0; PLACES];
+    let mut seen = [0; PLACES];
+    let mut list = [0; CANDIDATES];
+    let grown = mine(
+        survey,
+        &labels,
+        &rank,
+        &alphabet,
+        settings,
+        &mut cells,
+        &mut seen,
+        &mut list,
+        output,
+    );
+    match grown {
+        Growth::To(entries) => Catalogued::Entries(entries),
+        Growth::Full => {
+            clear(output);
+            Catalogued::Refused(Refusal::OutputLength, 0)
+        }
+    }
+}
+
+// Writes the catalogue of a survey: all patterns of at most `limit` cables that at least `threshold` drawings contain.
+pub fn write_catalogue(survey: &[u8], threshold: u32, limit: u32, output: &mut [u8]) -> Catalogued
+    ensures { λ r. ⌜ Catalogue-says (now (survey .entry)) threshold limit r (now (output .entry)) (now (output .exit)) ⌝ }
+{
+    let s = threshold as usize;
+    if s < Survey::LEAST_DRAWINGS || Survey::MOST_DRAWINGS < s {
+        return Catalogued::Refused(Refusal::Threshold, 0);
+    }
+    let l = limit as usize;
+    if l < 1 || Entry::MOST_RECORDS < l {
+        return Catalogued::Refused(Refusal::SizeLimit, 0);
+    }
+    if let SurveyChecked::Refused(r, d) = check_survey(survey) {
+        return Catalogued::Refused(r, d);
+    }
+    write_accepted(survey, s, l, output)
+}
+
+// The usual catalogue: what at least two drawings contain, up to four cables.
+pub fn usual_catalogue(survey: &[u8], output: &mut [u8]) -> Catalogued
+    ensures { λ r. ⌜ Catalogue-says (now (survey .entry)) 2 4 r (now (output .entry)) (now (output .exit)) ⌝ }
+{
+    write_catalogue(survey, 2, 4, output)
+}

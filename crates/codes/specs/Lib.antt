@@ -30,3 +30,5 @@ pub mod BranchSteps
 pub mod LeastSearch
 pub mod LeastSearchLocals
 pub mod LeastSearchLaws
+pub mod Overlooked
+pub mod Hopeless

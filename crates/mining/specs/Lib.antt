@@ -46,3 +46,5 @@ pub mod VerdictLaws
 pub mod Mines
 pub mod MineLaws
 pub mod WriteLaws
+pub mod Hopes
+pub mod HopeLaws

@@ -5,6 +5,7 @@ pub mod catalogue; // catalogue.rt: the catalogue of a survey
 mod mine; // mine.rt: all patterns of a survey, kind by kind of device 0
 mod grow; // grow.rt: growing a pattern and walking its next cables
 mod growing; // growing.rt: a code that grows, and the record at a place
+mod hopeful; // hopeful.rt: codes that cannot be least, told by their last record
 mod choose; // choose.rt: the candidates taken out of the cells, rising
 mod count; // count.rt: the cells counted over all drawings
 mod visit; // visit.rt: the walk over all numberings of a code in a drawing

@@ -122,8 +122,7 @@ module _ {code : List ℕ} {m : ℕ} {e : Rec} (a : Can-look code m e) where
       (λ (w : List Rec).
       (kinds-before (begins-with (e .ki) (e .c) (e .kj)) r ≡ true → Least (decoded w) w → ⊥)
       × (kinds-before (begins-with (e .kj) (e .c) (e .ki)) r ≡ true → Least (decoded w) w → ⊥))
-      (sym is)
-      (
+      (sym is) (
         first-hopeless kinds-before kinds-order r rs ok′ p′ e c,
         reversed-hopeless kinds-before kinds-order r rs ok′ p′ e c,
       )

@@ -2,7 +2,7 @@
 -- each. Rests on Growths and Walking. Assumes nothing.
 use mathlib.Core.Path.{_≡_, refl, sym, ap, _∙_, subst}
 use mathlib.Core.Bool.{Bool, true, false, cond}
-use mathlib.Core.List.{List, [], _∷_, _++_, map, append-assoc}
+use mathlib.Core.List.{List, [], _∷_, _++_, map, append-nil, append-assoc}
 use Prim.Native.Nat.{ℕ, suc, _+_, _*_, _-_, _/_, _%_, _^_, _≤_, _<_}
 use native.Mathlib.Nat.{mod-lt}
 use native.Mathlib.Omega.{arith}
@@ -10,9 +10,9 @@ use lib.Dec.{ltb}
 use lib.ListN.{length, getD}
 use Rattle.laws.specs.Lists.{Mem, snoc, mem-map, mem-front, mem-back, map-append, mem-eq}
 use Rattle.laws.specs.Rising.{Rises, rises-apart}
-use Rattle.graphs.specs.Drawing.{Drawing}
+use Rattle.graphs.specs.Drawing.{Drawing, is-pattern}
 use Rattle.graphs.specs.Survey.{count-true}
-use Rattle.codes.specs.Code.{Rec, Reading, kinds-before, rec-before-by, before-by, rows-refusal, fresh}
+use Rattle.codes.specs.Code.{Rec, Reading, kinds-before, rec-before-by, before-by, rows-refusal, fresh, decoded, Least}
 use Rattle.codes.specs.CodeOrder.{kinds-order}
 use Rattle.growth.specs.Growth.{Listed-by, listed-none}
 use Rattle.growth.specs.Frequent.{Frequent}
@@ -22,7 +22,7 @@ use Rattle.growth.specs.Counting.{All-patterns}
 use Rattle.growth.specs.Counted.{Extending, rows-extending, first-extending, Candidate, candidate-at, candidate-pattern}
 use Rattle.growth.specs.ListedBy.{Chosen, place-in, records-at, chosen-places, chosen-rise}
 use Rattle.growth.specs.Output.{Ahead}
-use Rattle.growth.specs.Walking.{Gives, Ahead-of, ahead-walked, listed-next}
+use Rattle.growth.specs.Walking.{Gives, passed, Ahead-of, ahead-walked, listed-next}
 use Rattle.coding.specs.declared.reading.Reading as held
 use Rattle.mining.specs.declared.grow.Growth.{Growth}
 use Rattle.mining.specs.declared.grow.Growth.the-variants.{To, Full}
@@ -34,6 +34,7 @@ use Rattle.mining.specs.Choices.{part, Kept}
 use Rattle.mining.specs.PartLaws.{part-none, part-snoc, part-split, part-has}
 use Rattle.mining.specs.Growings.{records-of, basis, Can-read, Can-grow, Grows}
 use Rattle.mining.specs.GrowingLaws.{records-length}
+use Rattle.mining.specs.Hopes.{Can-look}
 use Rattle.mining.specs.GrowLaws.{lists-same}
 use Rattle.mining.specs.Growths.{Candidate-held, Can-grow-on, Lists, Lists-more, Outcome, Grew, Fit, candidates-in, Can-walk-on, Went, On-the-way}
 
@@ -142,13 +143,24 @@ module _ {survey labels rank alphabet : List ℕ} {g : Settings} {h : held.Readi
           accepted = subst (λ (x : Rec). rows-refusal fresh (snoc γ x) ≡ 0) (sym is) fits-accepted;
         }
 
+    drawn : is-pattern (decoded (snoc (records-of h) (record-at (basis kind (records-of h)) alphabet (g .labels) (q / (2 ^ 40))))) ≡ true
+    drawn =
+        candidate-pattern extending (a .counting) (prepared-patterns (a .set-up .prepared)) (omega (arith, records-length h, a .more, a .set-up .small)) place-at
+        candidate
+
+    pub walk-looks :
+        (e : Rec) → e ≡ record-at (basis kind (records-of h)) alphabet (g .labels) (q / (2 ^ 40)) → Can-look (h .code .records) (h .code .count) e
+    walk-looks e is =
+        subst (Can-look (h .code .records) (h .code .count)) (sym is)
+        (record { room = omega (arith, a .more, a .set-up .small); accepted = fits-accepted; drawn = drawn })
+
     module _ {r : held.Reading} (t : Grows h (record-at (basis kind (records-of h)) alphabet (g .labels) (q / (2 ^ 40))) r) where
       held-candidate : Candidate-held (drawings-of survey) (g .threshold) (records-of r) (q % (2 ^ 40))
       held-candidate =
           subst (λ (c : List Rec). Candidate-held ds (g .threshold) c (q % (2 ^ 40))) (sym (t .records))
           (record {
             accepted = fits-accepted;
-            drawn = candidate-pattern extending (a .counting) (prepared-patterns (a .set-up .prepared)) (omega (arith, records-length h, a .more, a .set-up .small)) place-at candidate;
+            drawn = drawn;
             often = omega (arith, often, candidate .support-is);
             cell-is = cell-is ∙ ap cell-number (candidate .containing-is);
           })
@@ -204,6 +216,38 @@ module _ {survey labels rank alphabet : List ℕ} {g : Settings} {h : held.Readi
       ahead more t =
           ahead-walked kinds-before kinds-order ds (g .threshold) (g .limit) cs γ (up-to k) ahead-so-far more t next
           (b .earlier next (rw split (mem-back (up-to k) own))) later
+
+    -- PASSED OVER, where its code would not be the least
+    pub walk-passed :
+        {cells₁ seen₁ list₁ out₁ : List ℕ} {written : ℕ} (e : Rec) → e ≡ record-at (basis kind (records-of h)) alphabet (g .labels) (q / (2 ^ 40))
+        → (Least (decoded (snoc (records-of h) e)) (snoc (records-of h) e) → ⊥)
+        → On-the-way survey alphabet g kind (records-of h) list from top out count k cells₁ seen₁ list₁ out₁ written
+        → On-the-way survey alphabet g kind (records-of h) list from top out count (k + 1) cells₁ seen₁ list₁ out₁ written
+    walk-passed {out₁ = out₁} {written = written} e is bad w =
+        record {
+          low = omega arith;
+          high = omega arith;
+          blank = w .blank;
+          kept = w .kept;
+          size = w .size;
+          room = w .room;
+          told = λ cs old b l. step cs old (w .told cs old b l);
+        }
+      where
+        step : (cs : List (List Rec)) (old : List ℕ)
+            → Lists-more (drawings-of survey) (Listed-by kinds-before kinds-order (Frequent kinds-before (drawings-of survey) (g .threshold)) (g .limit) (records-of h) (candidates-in kind (records-of h) alphabet (g .labels) (part from k list))) cs old out₁ written
+            → Lists-more (drawings-of survey) (Listed-by kinds-before kinds-order (Frequent kinds-before (drawings-of survey) (g .threshold)) (g .limit) (records-of h) (candidates-in kind (records-of h) alphabet (g .labels) (part from (k + 1) list))) cs old out₁ written
+        step cs old x =
+            record {
+              more = x .more;
+              which =
+                  subst (λ (es : List Rec). Listed-by kinds-before kinds-order Wanted (g .limit) γ es (x .more)) (sym up-next)
+                  (subst (Listed-by kinds-before kinds-order Wanted (g .limit) γ (snoc (up-to k) next)) (append-nil (x .more))
+                  (listed-next kinds-before kinds-order ds (g .threshold) (g .limit) γ (up-to k) next (x .more) [] later (x .which)
+                  (passed (λ f. bad (subst (λ (c : Rec). Least (decoded (snoc γ c)) (snoc γ c)) (sym is) (f .least))))));
+              lists = x .lists;
+              room = x .room;
+            }
 
     -- AFTER IT
     module _ {r : held.Reading} (t : Grows h (record-at (basis kind (records-of h)) alphabet (g .labels) (q / (2 ^ 40))) r)

@@ -9,6 +9,7 @@ use crate::count::count_extensions;
 use crate::entry::put_entry;
 use crate::growing::grown;
 use crate::growing::next_record;
+use crate::hopeful::hopeless;
 use crate::mark::LABELS;
 use coding::answer::Verdict;
 use coding::least::is_least;
@@ -141,29 +142,35 @@ pub fn walk(
         (now (cells .exit)) (now (seen .exit)) (now (list .entry)) from top (now (list .exit))
         (now (output .entry)) count r (now (output .exit)) ⌝ }
 {
+    let code = held.code;
+    let bytes = code.records;
+    let cables = code.count;
+    let n = settings.labels;
     let mut written = count;
     for k in from..top {
         let candidate = list[k];
         let place = (candidate / PLACE) as usize;
-        let next = next_record(held, kind, alphabet, settings.labels, place);
-        let Growth::To(n) = grow(
-            survey,
-            labels,
-            rank,
-            alphabet,
-            settings,
-            grown(held, next),
-            candidate % PLACE,
-            cells,
-            seen,
-            list,
-            top,
-            output,
-            written,
-        ) else {
-            return Growth::Full;
-        };
-        written = n;
+        let next = next_record(held, kind, alphabet, n, place);
+        if !hopeless(&bytes, cables, next) {
+            let Growth::To(more) = grow(
+                survey,
+                labels,
+                rank,
+                alphabet,
+                settings,
+                grown(held, next),
+                candidate % PLACE,
+                cells,
+                seen,
+                list,
+                top,
+                output,
+                written,
+            ) else {
+                return Growth::Full;
+            };
+            written = more;
+        }
     }
     Growth::To(written)
 }

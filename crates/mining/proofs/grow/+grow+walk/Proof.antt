@@ -1,6 +1,8 @@
 -- `grow::grow` and `grow::walk` meet their contracts. The walk's invariant: what goes on by the candidates below k is listed.
 -- Assumes nothing.
 use mathlib.Core.Path.{_≡_, refl, sym, ap, _∙_, subst}
+use mathlib.Core.Bool.{Bool, true, false, not, true≢false}
+use mathlib.Core.Logic.{⊎-elim}
 use Prim.Native.Nat.{ℕ, _+_, _*_, _-_, _/_, _^_, _<_, _≤_}
 use native.Mathlib.Omega.{arith}
 use borrow.Author.Needs.{needs}
@@ -10,7 +12,7 @@ use Rattle.growth.specs.Places.{record-at}
 use Rattle.mining.specs.Growings.{records-of, basis, Grows}
 use Rattle.mining.specs.Growths.{On-the-way, Grew, Put}
 use Rattle.mining.specs.GrowLaws.{took-passed, took-full, took-written, grow-takes-up, grow-passed, grow-full, grow-leaf, grow-counts, grow-chooses, grow-walks, grow-went}
-use Rattle.mining.specs.WalkOnLaws.{walk-reads, walk-grows, walk-grows-on, walk-full, walk-next, walk-starts, walk-ends}
+use Rattle.mining.specs.WalkOnLaws.{walk-reads, walk-looks, walk-passed, walk-grows, walk-grows-on, walk-full, walk-next, walk-starts, walk-ends}
 use borrow.Fn.Kinds.{In}
 use borrow.Fn.PlainCycle.{Measures, is, falls, and}
 use Rattle.mining.proofs.grow.grow.Reads as grow
@@ -23,6 +25,7 @@ use Rattle.mining.proofs.choose.choose.Reads as choose-reads
 use Rattle.mining.proofs.count.count_extensions.Reads as count-extensions-reads
 use Rattle.mining.proofs.grow.take_up.Reads as take-up-reads
 use Rattle.mining.proofs.growing.grown.Reads as grown-reads
+use Rattle.mining.proofs.hopeful.hopeless.Reads as hopeless-reads
 use Rattle.mining.proofs.growing.next_record.Reads as next-record-reads
 use Rattle.mining.proofs.grow.+grow+walk.{statement}
 use Rattle.mining.proofs.grow.+grow+walk.Tie.{close}
@@ -62,6 +65,8 @@ abbrev walk-claims : ℕ → walk-lts.Claims
 walk-claims t = (
   next-record-reads.Asked,
   next-record-reads.Learnt,
+  hopeless-reads.Asked,
+  hopeless-reads.Learnt,
   grown-reads.Asked,
   grown-reads.Learnt,
   grow-below t,
@@ -151,15 +156,15 @@ grow-same-length-4 : (t : ℕ) → grow-lts.Need-same-length-4 (grow-claims t) (
 grow-same-length-4 t c = grow-returns-4 t c .size
 
 abbrev walk-Inv-loop : walk-lts.InvT-loop
-walk-Inv-loop survey labels rank alphabet settings held kind cells₀ seen₀ list₀ from top output₀ count written₀ k₀ cells seen list output written k =
+walk-Inv-loop survey labels rank alphabet settings held kind cells₀ seen₀ list₀ from top output₀ count bytes cables n written₀ k₀ cells seen list output written k =
     On-the-way survey alphabet settings kind (records-of held) list₀ from top output₀ count k cells seen list output written
 
 abbrev walk-μ-loop : walk-lts.MeasureT-loop
-walk-μ-loop survey labels rank alphabet settings held kind cells₀ seen₀ list₀ from top output₀ count written₀ k₀ cells seen list output written k =
+walk-μ-loop survey labels rank alphabet settings held kind cells₀ seen₀ list₀ from top output₀ count bytes cables n written₀ k₀ cells seen list output written k =
     top - k
 
 walk-loop-holds : (t : ℕ) → walk-lts.Need-loop-holds (walk-claims t) (walk-at t) walk.Post walk-Inv-loop walk-μ-loop
-walk-loop-holds t c = walk-starts (c .before .before .pre .1)
+walk-loop-holds t c = walk-starts (c .before .before .before .before .pre .1)
 
 walk-mul-candidate : (t : ℕ) → walk-lts.Need-mul-candidate (walk-claims t) (walk-at t) walk.Post walk-Inv-loop walk-μ-loop
 walk-mul-candidate t c = search needs
@@ -169,73 +174,89 @@ walk-element-copy-out-candidate t c = search needs
 
 walk-next-record-requires : (t : ℕ) → walk-lts.Need-next-record-requires (walk-claims t) (walk-at t) walk.Post walk-Inv-loop walk-μ-loop
 walk-next-record-requires t c κs =
-    let s = c .before .before .before .before .before in
+    let s = c .before .before .before .before .before .before .before in
     let l = c .before .before .loop in
     (s .args .rank .now, walk-reads (s .pre .1) (l .k) (l .inv .low) (c .before .loop-test .taken) _ (l .inv .kept .below (l .k) (c .before .loop-test .taken)))
 
+walk-hopeless-requires : (t : ℕ) → walk-lts.Need-hopeless-requires (walk-claims t) (walk-at t) walk.Post walk-Inv-loop walk-μ-loop
+walk-hopeless-requires t c κs =
+    let s = c .before .before .before .before .before .before .before .before .before in
+    let l = c .before .before .before .before .loop in
+    walk-looks (s .pre .1) (l .k) (l .inv .low) (c .before .before .before .loop-test .taken) _ (l .inv .kept .below (l .k) (c .before .before .before .loop-test .taken)) _ (c .before .next-record .ensures)
+
 walk-grown-requires : (t : ℕ) → walk-lts.Need-grown-requires (walk-claims t) (walk-at t) walk.Post walk-Inv-loop walk-μ-loop
 walk-grown-requires t c κs =
-    let s = c .before .before .before .before .before .before in
-    let l = c .before .before .before .loop in
-    walk-grows (s .pre .1) (l .k) (l .inv .low) (c .before .before .loop-test .taken) _ (l .inv .kept .below (l .k) (c .before .before .loop-test .taken)) _ (c .next-record .ensures)
+    let s = c .before .before .before .before .before .before .before .before .before .before .before in
+    let l = c .before .before .before .before .before .before .loop in
+    walk-grows (s .pre .1) (l .k) (l .inv .low) (c .before .before .before .before .before .loop-test .taken) _ (l .inv .kept .below (l .k) (c .before .before .before .before .before .loop-test .taken)) _ (c .before .before .before .next-record .ensures)
 
 -- the code grown by the candidate's record
 turn :
     (t : ℕ) (c : walk-lts.After-grown (walk-claims t) (walk-at t) walk.Post walk-Inv-loop walk-μ-loop)
-    → let s = c .before .before .before .before .before .before .before in
-    let l = c .before .before .before .before .loop in
+    → let s = c .before .before .before .before .before .before .before .before .before .before .before .before in
+    let l = c .before .before .before .before .before .before .before .loop in
     Grows (s .args .held)
     (record-at (basis (s .args .kind) (records-of (s .args .held))) (s .args .alphabet .now) (s .args .settings .labels) (getD (l .list) (l .k) 0 / (2 ^ 40)))
     (c .grown .result)
 turn t c =
-    let s = c .before .before .before .before .before .before .before in
-    subst (λ (e : Rec). Grows (s .args .held) e (c .grown .result)) (c .before .next-record .ensures) (c .grown .ensures)
+    let s = c .before .before .before .before .before .before .before .before .before .before .before .before in
+    subst (λ (e : Rec). Grows (s .args .held) e (c .grown .result)) (c .before .before .before .before .next-record .ensures) (c .grown .ensures)
 
 walk-grow-requires : (t : ℕ) → walk-lts.Need-grow-requires (walk-claims t) (walk-at t) walk.Post walk-Inv-loop walk-μ-loop
 walk-grow-requires t c κs =
-    let s = c .before .before .before .before .before .before .before .before .before .before .before in
-    let l = c .before .before .before .before .before .before .before .before .loop in
+    let s = c .before .before .before .before .before .before .before .before .before .before .before .before .before .before .before .before in
+    let l = c .before .before .before .before .before .before .before .before .before .before .before .loop in
     let r = turn t (c .before .before .before .before) in (
       omega (arith, s .pre .0, s .pre .1 .more, r .count),
-      walk-grows-on (s .pre .1) (l .k) (l .inv .low) (c .before .before .before .before .before .before .before .loop-test .taken) _ (l .inv .kept .below (l .k) (c .before .before .before .before .before .before .before .loop-test .taken)) r (l .inv),
+      walk-grows-on (s .pre .1) (l .k) (l .inv .low) (c .before .before .before .before .before .before .before .before .before .before .loop-test .taken) _ (l .inv .kept .below (l .k) (c .before .before .before .before .before .before .before .before .before .before .loop-test .taken)) r (l .inv),
     )
 
-walk-enum-known-n : (t : ℕ) → walk-lts.Need-enum-known-n (walk-claims t) (walk-at t) walk.Post walk-Inv-loop walk-μ-loop
-walk-enum-known-n t c = search needs
+walk-enum-known-more : (t : ℕ) → walk-lts.Need-enum-known-more (walk-claims t) (walk-at t) walk.Post walk-Inv-loop walk-μ-loop
+walk-enum-known-more t c = search needs
 
 walk-enum-told : (t : ℕ) → walk-lts.Need-enum-told (walk-claims t) (walk-at t) walk.Post walk-Inv-loop walk-μ-loop
 walk-enum-told t c = search needs
 
 walk-same-length : (t : ℕ) → walk-lts.Need-same-length (walk-claims t) (walk-at t) walk.Post walk-Inv-loop walk-μ-loop
-walk-same-length t c = search needs
+walk-same-length t c = c .before .before .before .before .grow .ensures .size ∙ c .before .before .before .before .before .before .before .before .before .before .before .before .before .before .before .before .loop .inv .size
 
 walk-returns : (t : ℕ) → walk-lts.Need-returns (walk-claims t) (walk-at t) walk.Post walk-Inv-loop walk-μ-loop
 walk-returns t c =
-    let s = c .before .before .before .before .before .before .before .before .before .before .before .before .before .before .before .before in
-    let l = c .before .before .before .before .before .before .before .before .before .before .before .before .before .loop in
-    walk-full (s .pre .1) (l .k) (l .inv .low) (c .before .before .before .before .before .before .before .before .before .before .before .before .loop-test .taken) _ (l .inv .kept .below (l .k) (c .before .before .before .before .before .before .before .before .before .before .before .before .loop-test .taken)) (turn t (c .before .before .before .before .before .before .before .before .before)) (l .inv)
+    let s = c .before .before .before .before .before .before .before .before .before .before .before .before .before .before .before .before .before .before .before .before .before in
+    let l = c .before .before .before .before .before .before .before .before .before .before .before .before .before .before .before .before .loop in
+    walk-full (s .pre .1) (l .k) (l .inv .low) (c .before .before .before .before .before .before .before .before .before .before .before .before .before .before .before .loop-test .taken) _ (l .inv .kept .below (l .k) (c .before .before .before .before .before .before .before .before .before .before .before .before .before .before .before .loop-test .taken)) (turn t (c .before .before .before .before .before .before .before .before .before)) (l .inv)
     (rw (c .enum-told .given .1) at (c .before .before .before .before .grow .ensures))
 
 walk-add-k : (t : ℕ) → walk-lts.Need-add-k (walk-claims t) (walk-at t) walk.Post walk-Inv-loop walk-μ-loop
 walk-add-k t c =
-    let a = c .before .before .before .before .before .before .before .before .before .before .before .before .before .before .before .before .before .pre .1 in
-    omega (arith, c .before .before .before .before .before .before .before .before .before .before .before .before .before .loop-test .taken, a .at-hand .room, a .more, a .set-up .small)
+    let a = c .before .before .before .before .before .before .before .before .before .before .before .pre .1 in
+    omega (arith, c .before .before .before .before .before .loop-test .taken, a .at-hand .room, a .more, a .set-up .small)
 
 walk-loop-less : (t : ℕ) → walk-lts.Need-loop-less (walk-claims t) (walk-at t) walk.Post walk-Inv-loop walk-μ-loop
 walk-loop-less t c = search needs
 
+-- what is not denied is said
+said : (b : Bool) → not b ≡ false → b ≡ true
+said true e = refl
+said false e = absurd (true≢false e)
+
 walk-loop-again : (t : ℕ) → walk-lts.Need-loop-again (walk-claims t) (walk-at t) walk.Post walk-Inv-loop walk-μ-loop
 walk-loop-again t c =
-    let s = c .before .before .before .before .before .before .before .before .before .before .before .before .before .before .before .before .before in
-    let l = c .before .before .before .before .before .before .before .before .before .before .before .before .before .before .loop in
-    walk-next (s .pre .1) (l .k) (l .inv .low) (c .before .before .before .before .before .before .before .before .before .before .before .before .before .loop-test .taken) _ (l .inv .kept .below (l .k) (c .before .before .before .before .before .before .before .before .before .before .before .before .before .loop-test .taken)) (turn t (c .before .before .before .before .before .before .before .before .before .before)) (l .inv)
-    (rw (c .before .n .given .1) at (c .before .before .before .before .before .grow .ensures))
+    let s = c .before .before .before .before .before .before .before .before .before .before .before in
+    let l = c .before .before .before .before .before .before .loop in
+    let h = c .before .before .before .before .before .loop-test .taken in
+    ⊎-elim
+    (λ w. rw (w .12, w .13, w .14, w .15, w .16) (walk-next (s .pre .1) (l .k) (l .inv .low) h _ (l .inv .kept .below (l .k) h)
+    (subst (λ (e : Rec). Grows (s .args .held) e (w .1 .result)) (c .before .before .before .next-record .ensures) (w .1 .ensures)) (l .inv) (rw (w .10 .given .1) at (w .6 .ensures))))
+    (λ w. rw (w .1, w .2, w .3, w .4, w .5) (walk-passed (s .pre .1) (l .k) (l .inv .low) h _ (l .inv .kept .below (l .k) h) _ (c .before .before .before .next-record .ensures)
+    (c .before .hopeless .ensures .not-least (said (c .before .hopeless .result) (w .0 .left))) (l .inv)))
+    (c .if1 .came)
 
 walk-same-length-2 : (t : ℕ) → walk-lts.Need-same-length-2 (walk-claims t) (walk-at t) walk.Post walk-Inv-loop walk-μ-loop
 walk-same-length-2 t c = search needs
 
 walk-returns-2 : (t : ℕ) → walk-lts.Need-returns-2 (walk-claims t) (walk-at t) walk.Post walk-Inv-loop walk-μ-loop
-walk-returns-2 t c = walk-ends (c .before .before .before .before .pre .1) (omega (arith, c .loop-test .left)) (c .before .loop .inv)
+walk-returns-2 t c = walk-ends (c .before .before .before .before .before .before .pre .1) (omega (arith, c .loop-test .left)) (c .before .loop .inv)
 
 pub +grow+walk-spec : {M : Type 1} → statement M
 +grow+walk-spec = close μ-grow μ-walk (λ t. grow-lts.spec (grow-claims t)
@@ -267,9 +288,10 @@ pub +grow+walk-spec : {M : Type 1} → statement M
     (walk-mul-candidate t)
     (walk-element-copy-out-candidate t)
     (walk-next-record-requires t)
+    (walk-hopeless-requires t)
     (walk-grown-requires t)
     (walk-grow-requires t)
-    (walk-enum-known-n t)
+    (walk-enum-known-more t)
     (walk-enum-told t)
     (walk-same-length t)
     (walk-returns t)

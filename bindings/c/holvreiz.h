@@ -1,0 +1,105 @@
+/* Holvreiz: the least DFS code of a wiring drawing, and the catalogue of the patterns that recur in a survey of drawings.
+ *
+ * The functions are proved: each answers any bytes of any length with what its contract says (crates/holvreiz/src), reads
+ * nothing outside the bytes that it is given and writes nothing outside the lent output. Link target/staticlib/libholvreiz.a,
+ * which `rt staticlib holvreiz` writes, into an x86-64 Linux program. There is no state: calls from several threads don't
+ * disturb each other.
+ *
+ * WHAT A CALLER OWES, for each pointer with its length:
+ *   - it points to that many bytes, and is not null, even where the length is 0;
+ *   - the lent output does not overlap an input. (Inputs may overlap each other.)
+ *
+ * WHAT A CALL RETURNS is one number, (drawing * 256 + refusal) * 2^32 + count. holvreiz_refusal, holvreiz_count and
+ * holvreiz_drawing take it apart. A refusal of 0 is an answer. A refused call has count 0 and writes nothing; only
+ * HOLVREIZ_OUTPUT_LENGTH of a catalogue leaves the whole lent output zero. Lent bytes past an answer keep their content.
+ * No count reaches 2^32, if fewer than 42 * 2^32 bytes are lent to a catalogue.
+ */
+#ifndef HOLVREIZ_H
+#define HOLVREIZ_H
+
+#include <stddef.h>
+#include <stdint.h>
+
+#ifdef __cplusplus
+extern "C" {
+#endif
+
+/* SIZES
+ * A drawing is one record of 72 bytes: n (2 to 10), m (1 to 20), ten device kinds, twenty cables of three bytes (one end,
+ * other end, cable kind). Devices count from 0, kinds are 0 to 255, unused bytes are zero.
+ * A survey is 1 to 32 drawings one after another.
+ * A code is 1 to 20 records of 5 bytes: i, j, kind of i, cable kind, kind of j.
+ * An entry of a catalogue is 42 bytes: number of cables, support, the records of the least code, zeros up to 8 records. */
+#define HOLVREIZ_DRAWING_BYTES 72
+#define HOLVREIZ_SURVEY_DRAWINGS 32
+#define HOLVREIZ_RECORD_BYTES 5
+#define HOLVREIZ_CODE_BYTES 100 /* the longest code */
+#define HOLVREIZ_MAP_BYTES 10   /* the longest map */
+#define HOLVREIZ_ENTRY_BYTES 42
+
+/* REFUSALS. Places are checked from the top, as far as a call has them, and the first that applies is returned; of two
+ * drawings or codes the first is checked fully before the second. */
+enum holvreiz_reason {
+    HOLVREIZ_ANSWERED = 0,
+    HOLVREIZ_DRAWING_LENGTH = 1,  /* a drawing is not 72 bytes long, or a survey no multiple of 72 */
+    HOLVREIZ_DEVICE_COUNT = 2,    /* n is not 2 to 10 */
+    HOLVREIZ_CABLE_COUNT = 3,     /* m is not 1 to 20 */
+    HOLVREIZ_CABLE_END = 4,       /* an end is not below n */
+    HOLVREIZ_CABLE_LOOP = 5,      /* both ends are equal */
+    HOLVREIZ_CABLE_PAIR = 6,      /* an earlier cable joins the pair */
+    HOLVREIZ_UNUSED_BYTE = 7,     /* an unused byte is not zero */
+    HOLVREIZ_NOT_CONNECTED = 8,   /* cables don't lead from each device to every other */
+    HOLVREIZ_CODE_LENGTH = 9,     /* a code has no byte, over 100, or no multiple of 5 */
+    HOLVREIZ_STEP = 10,           /* a record is not a permitted step */
+    HOLVREIZ_KIND = 11,           /* a kind differs from the first one given to its device */
+    HOLVREIZ_THRESHOLD = 12,      /* the threshold is not 1 to 32 */
+    HOLVREIZ_SIZE_LIMIT = 13,     /* the size limit is not 1 to 8 */
+    HOLVREIZ_SURVEY_LENGTH = 14,  /* a survey has no drawing, or over 32 */
+    HOLVREIZ_OUTPUT_LENGTH = 15   /* the lent output is too short for the whole answer */
+};
+
+/* What a call returned, taken apart. The drawing at fault counts from 0; it is told of a catalogue's refusals 2 to 8. */
+static inline uint32_t holvreiz_refusal(uint64_t returned) {
+    return (uint32_t)(returned >> 32) & 255;
+}
+
+static inline uint32_t holvreiz_count(uint64_t returned) {
+    return (uint32_t)returned;
+}
+
+static inline uint32_t holvreiz_drawing(uint64_t returned) {
+    return (uint32_t)(returned >> 40);
+}
+
+/* Writes the least code of a drawing: 5 bytes for each cable. Two drawings get equal codes exactly when some renumbering of
+ * devices makes one the other. Count: bytes written. */
+uint64_t holvreiz_code(const uint8_t *drawing, size_t drawing_length, uint8_t *output, size_t output_length);
+
+/* Writes the drawing that a code describes, with devices numbered as in the code and cables in the order of its records.
+ * Needs 72 bytes of output. Count: bytes written. */
+uint64_t holvreiz_decode(const uint8_t *code, size_t code_length, uint8_t *output, size_t output_length);
+
+/* Whether a code is the least of the drawing that it describes. Count: 1 yes, 0 no. */
+uint64_t holvreiz_is_least(const uint8_t *code, size_t code_length);
+
+/* Where the first of two codes comes. Count: 0 equal, 1 before the second, 2 after it. */
+uint64_t holvreiz_compare(const uint8_t *first, size_t first_length, const uint8_t *second, size_t second_length);
+
+/* Writes the least map of a pattern into a drawing: for each device of the pattern, in order, the device that it is sent to.
+ * Needs a byte of output for each device of the pattern. Count: devices of the pattern, 0 where it is not contained. */
+uint64_t holvreiz_match(const uint8_t *pattern, size_t pattern_length, const uint8_t *drawing, size_t drawing_length,
+                        uint8_t *output, size_t output_length);
+
+/* Whether two drawings are the same, however their devices are numbered and their cables ordered. Count: 1 yes, 0 no. */
+uint64_t holvreiz_same(const uint8_t *first, size_t first_length, const uint8_t *second, size_t second_length);
+
+/* Writes the catalogue of a survey: an entry for each pattern of at most `limit` cables (1 to 8) that at least `threshold`
+ * drawings (1 to 32) contain, codes rising. Needs 42 bytes of output for each entry. Count: entries. */
+uint64_t holvreiz_catalogue(const uint8_t *survey, size_t survey_length, uint32_t threshold, uint32_t limit,
+                            uint8_t *output, size_t output_length);
+
+#ifdef __cplusplus
+}
+#endif
+
+#endif

@@ -1,0 +1,224 @@
+//! Holvreiz gives a wiring drawing its identity and lists the patterns that recur in a survey of drawings.
+//!
+//! A drawing is a small labelled graph, held in a record of 72 bytes; its identity is its least DFS code. Every call takes any
+//! bytes of any length: what is no drawing, code or survey is turned back with the one [`Refusal`] that the format names. The
+//! library behind these calls is proved; this crate only passes slices on and takes the returned number apart.
+//!
+//! ```
+//! // two devices, of kinds 2 and 1, joined by a cable of kind 7
+//! let mut drawing = [0; holvreiz::DRAWING_BYTES];
+//! drawing[..4].copy_from_slice(&[2, 1, 2, 1]);
+//! drawing[12..15].copy_from_slice(&[0, 1, 7]);
+//!
+//! let mut code = [0; holvreiz::CODE_BYTES];
+//! let length = holvreiz::code(&drawing, &mut code)?;
+//! assert_eq!(code[..length], [0, 1, 1, 7, 2]);
+//! # Ok::<(), holvreiz::Refusal>(())
+//! ```
+#![warn(missing_docs)]
+
+use std::cmp::Ordering;
+use std::error::Error;
+use std::fmt;
+
+pub mod raw;
+
+/// The size of a drawing: n, m, ten device kinds, twenty cables of three bytes (one end, other end, cable kind).
+pub const DRAWING_BYTES: usize = 72;
+
+/// The most drawings in a survey, which has them one after another.
+pub const SURVEY_DRAWINGS: usize = 32;
+
+/// The size of a code's record: i, j, kind of i, cable kind, kind of j.
+pub const RECORD_BYTES: usize = 5;
+
+/// The size of the longest code.
+pub const CODE_BYTES: usize = 100;
+
+/// The size of the longest map.
+pub const MAP_BYTES: usize = 10;
+
+/// The size of a catalogue's entry: number of cables, support, the least code's records, zeros up to 8 records.
+pub const ENTRY_BYTES: usize = 42;
+
+/// Why a call is turned back, by the format's numbers 1 to 15. A refused call writes nothing.
+#[derive(Clone, Copy, Debug, PartialEq, Eq, Hash, PartialOrd, Ord)]
+#[repr(u8)]
+pub enum Refusal {
+    /// A drawing is not 72 bytes long, or a survey no multiple of that.
+    DrawingLength = 1,
+    /// The number of devices is not 2 to 10.
+    DeviceCount,
+    /// The number of cables is not 1 to 20.
+    CableCount,
+    /// An end of a cable is no device.
+    CableEnd,
+    /// Both ends of a cable are equal.
+    CableLoop,
+    /// Two cables join one pair of devices.
+    CablePair,
+    /// An unused byte is not zero.
+    UnusedByte,
+    /// Cables don't lead from each device to every other.
+    NotConnected,
+    /// A code has no byte, over 100, or no multiple of 5.
+    CodeLength,
+    /// A record of a code is not a permitted step.
+    Step,
+    /// A record of a code gives a device another kind than its first.
+    Kind,
+    /// A threshold is not 1 to 32.
+    Threshold,
+    /// A size limit is not 1 to 8.
+    SizeLimit,
+    /// A survey has no drawing, or over 32.
+    SurveyLength,
+    /// The lent output is too short for the whole answer.
+    OutputLength,
+}
+
+impl Refusal {
+    /// Every refusal, in the order of their numbers.
+    pub const ALL: [Refusal; 15] = [
+        Refusal::DrawingLength,
+        Refusal::DeviceCount,
+        Refusal::CableCount,
+        Refusal::CableEnd,
+        Refusal::CableLoop,
+        Refusal::CablePair,
+        Refusal::UnusedByte,
+        Refusal::NotConnected,
+        Refusal::CodeLength,
+        Refusal::Step,
+        Refusal::Kind,
+        Refusal::Threshold,
+        Refusal::SizeLimit,
+        Refusal::SurveyLength,
+        Refusal::OutputLength,
+    ];
+
+    /// The format's number of a refusal, 1 to 15.
+    pub fn number(self) -> u8 {
+        self as u8
+    }
+
+    /// None for 0, which is an answer.
+    fn from_number(number: u8) -> Option<Refusal> {
+        let place = usize::from(number).checked_sub(1)?;
+        Some(
+            *Refusal::ALL
+                .get(place)
+                .expect("the library returns refusals 1 to 15 only"),
+        )
+    }
+}
+
+impl fmt::Display for Refusal {
+    fn fmt(&self, f: &mut fmt::Formatter<'_>) -> fmt::Result {
+        write!(f, "refused {}", self.number())
+    }
+}
+
+impl Error for Refusal {}
+
+/// Why a catalogue is turned back, and for refusals 2 to 8 the drawing at fault, counted from 0.
+#[derive(Clone, Copy, Debug, PartialEq, Eq, Hash)]
+pub struct SurveyRefusal {
+    /// The reason.
+    pub refusal: Refusal,
+    /// The drawing at fault, if it is one drawing's fault.
+    pub drawing: Option<usize>,
+}
+
+impl fmt::Display for SurveyRefusal {
+    fn fmt(&self, f: &mut fmt::Formatter<'_>) -> fmt::Result {
+        match self.drawing {
+            Some(drawing) => write!(f, "{} drawing {drawing}", self.refusal),
+            None => write!(f, "{}", self.refusal),
+        }
+    }
+}
+
+impl Error for SurveyRefusal {}
+
+/// What the library returns, taken apart.
+fn answered(returned: u64) -> Result<usize, Refusal> {
+    match Refusal::from_number((returned >> 32) as u8) {
+        None => Ok(returned as u32 as usize),
+        Some(refusal) => Err(refusal),
+    }
+}
+
+/// Writes the least code of a drawing into `output`, 5 bytes for each cable, and gives the number of bytes written.
+///
+/// Two drawings get equal codes exactly when some renumbering of devices makes one the other.
+pub fn code(drawing: &[u8], output: &mut [u8]) -> Result<usize, Refusal> {
+    answered(raw::code(drawing, output))
+}
+
+/// Writes the drawing that a code describes into `output` and gives the number of bytes written, [`DRAWING_BYTES`].
+///
+/// Devices are numbered as in the code, cables stand in the order of its records.
+pub fn decode(code: &[u8], output: &mut [u8]) -> Result<usize, Refusal> {
+    answered(raw::decode(code, output))
+}
+
+/// Whether a code is the least of the drawing that it describes.
+pub fn is_least(code: &[u8]) -> Result<bool, Refusal> {
+    Ok(answered(raw::is_least(code))? == 1)
+}
+
+/// The order of two codes: at the first record that differs; a code that begins another comes before it.
+pub fn compare(first: &[u8], second: &[u8]) -> Result<Ordering, Refusal> {
+    Ok(match answered(raw::compare(first, second))? {
+        0 => Ordering::Equal,
+        1 => Ordering::Less,
+        _ => Ordering::Greater,
+    })
+}
+
+/// Writes the least map of a pattern into a drawing: for each device of the pattern the device that it is sent to.
+///
+/// Gives the number of bytes written, or None where the drawing does not contain the pattern.
+pub fn match_drawing(
+    pattern: &[u8],
+    drawing: &[u8],
+    output: &mut [u8],
+) -> Result<Option<usize>, Refusal> {
+    Ok(
+        match answered(raw::match_drawing(pattern, drawing, output))? {
+            0 => None,
+            devices => Some(devices),
+        },
+    )
+}
+
+/// Whether two drawings are the same, however their devices are numbered and their cables ordered.
+pub fn same(first: &[u8], second: &[u8]) -> Result<bool, Refusal> {
+    Ok(answered(raw::same(first, second))? == 1)
+}
+
+/// Writes the catalogue of a survey into `output`, [`ENTRY_BYTES`] for each entry, and gives the number of entries.
+///
+/// There is an entry for each pattern of at most `limit` cables that at least `threshold` drawings contain; codes rise. Where
+/// the entries don't fit, the whole output is zero and the refusal is [`Refusal::OutputLength`].
+#[cfg(feature = "catalogue")]
+pub fn catalogue(
+    survey: &[u8],
+    threshold: u32,
+    limit: u32,
+    output: &mut [u8],
+) -> Result<usize, SurveyRefusal> {
+    let returned = raw::catalogue(survey, threshold, limit, output);
+    answered(returned).map_err(|refusal| SurveyRefusal {
+        refusal,
+        drawing: faulty_drawing(refusal, returned),
+    })
+}
+
+/// The drawing at fault. A survey's own length is no drawing's fault, so that 1 names none.
+#[cfg(feature = "catalogue")]
+fn faulty_drawing(refusal: Refusal, returned: u64) -> Option<usize> {
+    let in_a_drawing = Refusal::DeviceCount <= refusal && refusal <= Refusal::NotConnected;
+    in_a_drawing.then_some((returned >> 40) as usize)
+}

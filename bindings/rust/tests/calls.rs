@@ -1,0 +1,149 @@
+//! Each call once with an answer and once with a refusal: that slices arrive and numbers are taken apart rightly.
+use holvreiz::Refusal;
+use std::cmp::Ordering;
+
+/// A drawing's record: the kinds of its devices, then its cables.
+fn drawing(kinds: &[u8], cables: &[[u8; 3]]) -> [u8; holvreiz::DRAWING_BYTES] {
+    let mut record = [0; holvreiz::DRAWING_BYTES];
+    record[0] = kinds.len() as u8;
+    record[1] = cables.len() as u8;
+    record[2..][..kinds.len()].copy_from_slice(kinds);
+    record[12..][..3 * cables.len()].copy_from_slice(&cables.concat());
+    record
+}
+
+/// Kind 1 and cable 5 throughout.
+fn plain(devices: usize, pairs: &[[u8; 2]]) -> [u8; holvreiz::DRAWING_BYTES] {
+    let cables: Vec<[u8; 3]> = pairs.iter().map(|&[a, b]| [a, b, 5]).collect();
+    drawing(&vec![1; devices], &cables)
+}
+
+fn plain_code(pairs: &[[u8; 2]]) -> Vec<u8> {
+    pairs.iter().flat_map(|&[i, j]| [i, j, 1, 5, 1]).collect()
+}
+
+#[test]
+fn the_least_code_of_a_drawing() {
+    let mut output = [9; 12];
+    let star = drawing(&[1, 2, 3], &[[0, 1, 9], [2, 0, 4]]);
+    assert_eq!(holvreiz::code(&star, &mut output), Ok(10));
+    assert_eq!(output, [0, 1, 1, 4, 3, 0, 2, 1, 9, 2, 9, 9]);
+    assert_eq!(
+        holvreiz::code(&star, &mut output[..9]),
+        Err(Refusal::OutputLength)
+    );
+    assert_eq!(
+        holvreiz::code(&[], &mut output),
+        Err(Refusal::DrawingLength)
+    );
+}
+
+#[test]
+fn the_drawing_of_a_code() {
+    let mut output = [0; holvreiz::DRAWING_BYTES];
+    assert_eq!(
+        holvreiz::decode(&plain_code(&[[0, 1], [1, 2], [2, 0]]), &mut output),
+        Ok(holvreiz::DRAWING_BYTES)
+    );
+    assert_eq!(output, plain(3, &[[0, 1], [1, 2], [2, 0]]));
+    assert_eq!(
+        holvreiz::decode(&plain_code(&[[0, 1], [1, 0]]), &mut output),
+        Err(Refusal::Step)
+    );
+}
+
+#[test]
+fn whether_a_code_is_the_least() {
+    assert_eq!(holvreiz::is_least(&plain_code(&[[0, 1], [1, 2]])), Ok(true));
+    assert_eq!(
+        holvreiz::is_least(&plain_code(&[[0, 1], [0, 2]])),
+        Ok(false)
+    );
+    assert_eq!(
+        holvreiz::is_least(&[0, 1, 1, 5, 1, 1, 2, 2, 5, 1]),
+        Err(Refusal::Kind)
+    );
+}
+
+#[test]
+fn the_order_of_two_codes() {
+    let (path, star) = (plain_code(&[[0, 1], [1, 2]]), plain_code(&[[0, 1], [0, 2]]));
+    assert_eq!(holvreiz::compare(&path, &path), Ok(Ordering::Equal));
+    assert_eq!(holvreiz::compare(&path, &star), Ok(Ordering::Less));
+    assert_eq!(holvreiz::compare(&star, &path), Ok(Ordering::Greater));
+    assert_eq!(holvreiz::compare(&star, &[]), Err(Refusal::CodeLength));
+}
+
+#[test]
+fn the_least_map_of_a_pattern() {
+    let (path, triangle) = (
+        plain(3, &[[0, 1], [1, 2]]),
+        plain(3, &[[0, 1], [1, 2], [2, 0]]),
+    );
+    let mut output = [9; 4];
+    assert_eq!(
+        holvreiz::match_drawing(&path, &triangle, &mut output),
+        Ok(Some(3))
+    );
+    assert_eq!(output, [0, 1, 2, 9]);
+    assert_eq!(
+        holvreiz::match_drawing(&triangle, &path, &mut output),
+        Ok(None)
+    );
+    assert_eq!(
+        holvreiz::match_drawing(&path, &plain(11, &[[0, 1]]), &mut output),
+        Err(Refusal::DeviceCount)
+    );
+}
+
+#[test]
+fn whether_two_drawings_are_the_same() {
+    let (path, turned) = (plain(3, &[[0, 1], [1, 2]]), plain(3, &[[2, 0], [0, 1]]));
+    assert_eq!(holvreiz::same(&path, &turned), Ok(true));
+    assert_eq!(
+        holvreiz::same(&path, &plain(3, &[[0, 1], [1, 2], [2, 0]])),
+        Ok(false)
+    );
+    assert_eq!(
+        holvreiz::same(&path, &plain(3, &[[0, 1]])),
+        Err(Refusal::NotConnected)
+    );
+}
+
+#[cfg(feature = "catalogue")]
+#[test]
+fn the_catalogue_of_a_survey() {
+    let survey = [
+        plain(3, &[[0, 1], [1, 2]]),
+        plain(3, &[[0, 1], [1, 2], [2, 0]]),
+    ]
+    .concat();
+    let mut output = [9; 3 * holvreiz::ENTRY_BYTES];
+    assert_eq!(holvreiz::catalogue(&survey, 2, 4, &mut output), Ok(2));
+    assert_eq!(output[..7], [1, 2, 0, 1, 1, 5, 1]);
+    assert_eq!(
+        output[2 * holvreiz::ENTRY_BYTES..],
+        [9; holvreiz::ENTRY_BYTES]
+    );
+
+    let refused = holvreiz::catalogue(
+        &[survey, plain(3, &[[0, 1]]).to_vec()].concat(),
+        2,
+        4,
+        &mut output,
+    )
+    .unwrap_err();
+    assert_eq!(
+        (refused.refusal, refused.drawing),
+        (Refusal::NotConnected, Some(2))
+    );
+    assert_eq!(refused.to_string(), "refused 8 drawing 2");
+}
+
+#[test]
+fn refusals_have_the_numbers_of_the_format() {
+    for (place, refusal) in Refusal::ALL.iter().enumerate() {
+        assert_eq!(usize::from(refusal.number()), place + 1);
+    }
+    assert_eq!(Refusal::SurveyLength.to_string(), "refused 14");
+}

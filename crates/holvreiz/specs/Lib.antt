@@ -1,0 +1,9 @@
+pub mod Packed
+pub mod PackedLaws
+pub mod Returns
+pub mod ReturnLaws
+pub mod CatalogueNumbers
+pub mod Terms
+pub mod RefusedLaws
+pub mod CodeWays
+pub mod Demands

@@ -1,0 +1,54 @@
+-- What each call of the C interface returns: the number of an answer that the library's own definition allows. Assumes nothing:
+-- these are definitions.
+use mathlib.Core.Path.{_≡_}
+use mathlib.Core.List.{List}
+use Prim.Native.Nat.{ℕ}
+use Rattle.coding.specs.declared.answer.Written.{Written}
+use Rattle.coding.specs.declared.answer.Verdict.{Verdict}
+use Rattle.coding.specs.declared.answer.Compared.{Compared}
+use Rattle.coding.specs.Answers.{written-numbers, verdict-numbers, compared-numbers}
+use Rattle.coding.specs.CodeDrawing.{Code-says}
+use Rattle.coding.specs.Decoding.{Decode-says}
+use Rattle.coding.specs.LeastSays.{Least-says}
+use Rattle.coding.specs.Comparing.{Compare-says}
+use Rattle.matching.specs.declared.answer.Matched.{Matched}
+use Rattle.matching.specs.declared.answer.Sameness.{Sameness}
+use Rattle.matching.specs.Answers.{match-refusal, match-count, same-refusal, same-value, Match-says, Same-says}
+use Rattle.mining.specs.declared.answer.Catalogued.{Catalogued}
+use Rattle.mining.specs.CatalogueSays.{catalogued-refusal, catalogued-count, Catalogue-says}
+use Rattle.holvreiz.specs.Packed.{packed, packed-numbers}
+
+pub record Code-returns (drawing : List ℕ) (x : ℕ) (out out-now : List ℕ) : Type 0 where
+  pub answer : Written
+  pub says : Code-says drawing answer out out-now
+  pub number : x ≡ packed-numbers (written-numbers answer)
+
+pub record Decode-returns (code : List ℕ) (x : ℕ) (out out-now : List ℕ) : Type 0 where
+  pub answer : Written
+  pub says : Decode-says code answer out out-now
+  pub number : x ≡ packed-numbers (written-numbers answer)
+
+pub record Least-returns (code : List ℕ) (x : ℕ) : Type 0 where
+  pub answer : Verdict
+  pub says : Least-says code answer
+  pub number : x ≡ packed-numbers (verdict-numbers answer)
+
+pub record Compare-returns (first second : List ℕ) (x : ℕ) : Type 0 where
+  pub answer : Compared
+  pub says : Compare-says first second answer
+  pub number : x ≡ packed-numbers (compared-numbers answer)
+
+pub record Match-returns (pattern drawing : List ℕ) (x : ℕ) (out out-now : List ℕ) : Type 0 where
+  pub answer : Matched
+  pub says : Match-says pattern drawing answer out out-now
+  pub number : x ≡ packed (match-refusal answer) (match-count answer) 0
+
+pub record Same-returns (first second : List ℕ) (x : ℕ) : Type 0 where
+  pub answer : Sameness
+  pub says : Same-says first second answer
+  pub number : x ≡ packed (same-refusal answer) (same-value answer) 0
+
+pub record Catalogue-returns (survey : List ℕ) (s l x : ℕ) (out out-now : List ℕ) : Type 0 where
+  pub answer : Catalogued
+  pub says : Catalogue-says survey s l answer out out-now
+  pub number : x ≡ packed (catalogued-refusal answer .number) (catalogued-count answer) (catalogued-refusal answer .drawing)

@@ -1,0 +1,76 @@
+// Coding for other languages: the least code of a drawing, the drawing of a code, the least test, the order of two codes.
+use crate::number::counted;
+use crate::number::refused;
+use coding::answer::Compared;
+use coding::answer::Verdict;
+use coding::answer::Written;
+use coding::compare::compare;
+use coding::decode::decode;
+use coding::least::is_least;
+use coding::search::code_drawing;
+ghost use mathlib.Core.Path.{_≡_};
+ghost use Rattle.coding.specs.Answers.{written-numbers, verdict-numbers, compared-numbers};
+ghost use Rattle.holvreiz.specs.Packed.{packed-numbers};
+ghost use Rattle.holvreiz.specs.Returns.{Code-returns, Decode-returns, Least-returns, Compare-returns};
+
+fn written_number(answer: Written) -> u64
+    ensures { λ r. ⌜ r ≡ packed-numbers (written-numbers answer) ⌝ }
+{
+    match answer {
+        Written::Bytes(n) => counted(n),
+        Written::Refused(reason) => refused(reason, 0),
+    }
+}
+
+fn verdict_number(answer: Verdict) -> u64
+    ensures { λ r. ⌜ r ≡ packed-numbers (verdict-numbers answer) ⌝ }
+{
+    match answer {
+        Verdict::No => counted(0),
+        Verdict::Yes => counted(1),
+        Verdict::Refused(reason) => refused(reason, 0),
+    }
+}
+
+fn compared_number(answer: Compared) -> u64
+    ensures { λ r. ⌜ r ≡ packed-numbers (compared-numbers answer) ⌝ }
+{
+    match answer {
+        Compared::Equal => counted(0),
+        Compared::Before => counted(1),
+        Compared::After => counted(2),
+        Compared::Refused(reason) => refused(reason, 0),
+    }
+}
+
+// The least code of a drawing. The count is the number of bytes written.
+#[no_mangle]
+pub extern "C" fn holvreiz_code(drawing: &[u8], output: &mut [u8]) -> u64
+    ensures { λ r. ⌜ Code-returns (now (drawing .entry)) r (now (output .entry)) (now (output .exit)) ⌝ }
+{
+    written_number(code_drawing(drawing, output))
+}
+
+// The drawing that a code describes. The count is the number of bytes written.
+#[no_mangle]
+pub extern "C" fn holvreiz_decode(code: &[u8], output: &mut [u8]) -> u64
+    ensures { λ r. ⌜ Decode-returns (now (code .entry)) r (now (output .entry)) (now (output .exit)) ⌝ }
+{
+    written_number(decode(code, output))
+}
+
+// Whether a code is the least of the drawing that it describes. The count is 1 for yes, 0 for no.
+#[no_mangle]
+pub extern "C" fn holvreiz_is_least(code: &[u8]) -> u64
+    ensures { λ r. ⌜ Least-returns (now (code .entry)) r ⌝ }
+{
+    verdict_number(is_least(code))
+}
+
+// Where the first of two codes comes. The count is 0 for equal, 1 for before, 2 for after.
+#[no_mangle]
+pub extern "C" fn holvreiz_compare(first: &[u8], second: &[u8]) -> u64
+    ensures { λ r. ⌜ Compare-returns (now (first .entry)) (now (second .entry)) r ⌝ }
+{
+    compared_number(compare(first, second))
+}

@@ -1,0 +1,11 @@
+pub mod Texts
+pub mod Examples
+pub mod Numbers
+pub mod TextLaws
+pub mod Writing
+pub mod WritingLaws
+pub mod Says
+pub mod SaysLaws
+pub mod TextSizes
+pub mod SurveyText
+pub mod SurveyTextLaws

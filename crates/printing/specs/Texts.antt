@@ -1,0 +1,84 @@
+-- The text of a catalogue, or of the refusal of one, as bytes; and the entries that lent bytes hold. Assumes nothing: these
+-- are definitions.
+use mathlib.Core.Bool.{_&&_, cond}
+use mathlib.Core.List.{List, [], _∷_, _++_, map}
+use Prim.Native.Nat.{ℕ, zero, suc, _+_, _/_, _%_, min}
+use lib.Dec.{ltb, leb}
+use lib.ListN.{length, getD, drop}
+use Rattle.laws.specs.Lists.{concat}
+use Rattle.laws.specs.Rows.{rows}
+use Rattle.codes.specs.Code.{Rec, recs-in}
+use Rattle.growth.specs.Catalogue.{Entry, entry}
+use Rattle.records.specs.Refusals.{number-of}
+use Rattle.mining.specs.CatalogueSays.{catalogued-count}
+use Rattle.mining.specs.declared.answer.Catalogued.{Catalogued}
+use Rattle.mining.specs.declared.answer.Catalogued.the-variants.{Entries, Refused}
+
+-- NUMBERS in decimal: ASCII digits without leading zeros, of which n has at most n + 1
+unfoldable pub digits : (most n : ℕ) → List ℕ
+digits zero n = []
+digits (suc k) n = cond (ltb n 10) ((48 + n) ∷ []) (digits k (n / 10) ++ ((48 + n % 10) ∷ []))
+
+unfoldable pub decimal : ℕ → List ℕ
+decimal n = digits (suc n) n
+
+-- THE WORDS, with the blanks around them
+abbrev pub newline : List ℕ
+newline = 10 ∷ []
+
+-- " patterns"
+abbrev pub patterns : List ℕ
+patterns = 32 ∷ 112 ∷ 97 ∷ 116 ∷ 116 ∷ 101 ∷ 114 ∷ 110 ∷ 115 ∷ []
+
+-- "refused "
+abbrev pub refused : List ℕ
+refused = 114 ∷ 101 ∷ 102 ∷ 117 ∷ 115 ∷ 101 ∷ 100 ∷ 32 ∷ []
+
+-- " drawing "
+abbrev pub drawing : List ℕ
+drawing = 32 ∷ 100 ∷ 114 ∷ 97 ∷ 119 ∷ 105 ∷ 110 ∷ 103 ∷ 32 ∷ []
+
+-- each record as i-j:kind.cable.kind, all decimal
+unfoldable pub record-text : Rec → List ℕ
+record-text r = decimal (r .i) ++ (45 ∷ decimal (r .j)) ++ (58 ∷ decimal (r .ki)) ++ (46 ∷ decimal (r .c)) ++ (46 ∷ decimal (r .kj))
+
+-- a line per entry: support, then after a blank each record
+abbrev pub records-text : List Rec → List ℕ
+records-text rs = concat (map (λ r. 32 ∷ record-text r) rs)
+
+unfoldable pub entry-text : Entry → List ℕ
+entry-text e = decimal (e .support) ++ records-text (e .code) ++ newline
+
+abbrev pub lines : List Entry → List ℕ
+lines es = concat (map entry-text es)
+
+-- last line: number of entries and the word patterns
+unfoldable pub catalogue-text : List Entry → List ℕ
+catalogue-text es = lines es ++ decimal (length es) ++ (patterns ++ newline)
+
+-- a refusal prints one line only, the word refused and its number, for 2 to 8 also the word drawing and the drawing
+abbrev pub drawing-text : (number drawing : ℕ) → List ℕ
+drawing-text n d = cond (leb 2 n && leb n 8) (drawing ++ decimal d) []
+
+unfoldable pub refusal-text : (number drawing : ℕ) → List ℕ
+refusal-text n d = refused ++ decimal n ++ drawing-text n d ++ newline
+
+-- THE TEXT OF AN ANSWER
+abbrev pub answer-text : Catalogued → (entries : List Entry) → List ℕ
+answer-text (Entries n) es = catalogue-text es
+answer-text (Refused r d) es = refusal-text (number-of r) d
+
+-- ENTRIES IN BYTES: the 42 bytes of an entry; a count of cables above 8 stands for 8
+unfoldable pub entry-in : List ℕ → Entry
+entry-in bs = entry (getD bs 1 0) (recs-in (min (getD bs 0 0) 8) (drop 2 bs))
+
+abbrev pub first-entries : (n : ℕ) → List ℕ → List Entry
+first-entries n bs = map entry-in (rows 42 n bs)
+
+-- n entries, or as many as the bytes have room for
+abbrev pub entries-in : (n : ℕ) → List ℕ → List Entry
+entries-in n bs = first-entries (min n (length bs / 42)) bs
+
+-- the text of an answer whose entries stand in these bytes
+abbrev pub text-of : Catalogued → (bytes : List ℕ) → List ℕ
+text-of a bs = answer-text a (entries-in (catalogued-count a) bs)

@@ -1,0 +1,291 @@
+//! What the calls are given: drawings of any shape, symmetric ones, the same ones drawn otherwise, parts of them, codes of
+//! them, and all of these damaged.
+use crate::code::{self, Code};
+use crate::drawing::{Cable, Drawing, MOST_CABLES, MOST_DEVICES, RECORD};
+use crate::random::Random;
+
+/// How many devices, and how many kinds of devices and of cables: few kinds make many ties.
+#[derive(Clone, Copy)]
+pub struct Shape {
+    pub devices: (usize, usize),
+    pub most_cables: usize,
+    pub kinds: usize,
+}
+
+/// A connected drawing: a random tree, and further cables between pairs that are not joined.
+pub fn drawing(random: &mut Random, shape: Shape) -> Drawing {
+    let devices = random.between(shape.devices.0, shape.devices.1);
+    let mut pairs: Vec<(usize, usize)> = (1..devices)
+        .map(|device| (random.below(device), device))
+        .collect();
+    let room = shape
+        .most_cables
+        .min(MOST_CABLES)
+        .saturating_sub(pairs.len());
+    for _ in 0..random.below(room + 1) {
+        let pair = (random.below(devices), random.below(devices));
+        let pair = (pair.0.min(pair.1), pair.0.max(pair.1));
+        if pair.0 != pair.1 && !pairs.contains(&pair) {
+            pairs.push(pair);
+        }
+    }
+    let spread = *random.pick(&[1, 1, 7, 255 / shape.kinds]);
+    let kind = |random: &mut Random| (random.below(shape.kinds) * spread) as u8;
+    let kinds = (0..devices).map(|_| kind(random)).collect();
+    let cables = pairs
+        .into_iter()
+        .map(|(a, b)| Cable {
+            a,
+            b,
+            kind: kind(random),
+        })
+        .collect();
+    redrawn(random, &Drawing { kinds, cables })
+}
+
+/// The same drawing with its devices renumbered, its cables in another order and some of them turned.
+pub fn redrawn(random: &mut Random, drawing: &Drawing) -> Drawing {
+    let places = random.order(drawing.devices());
+    let mut kinds = vec![0; drawing.devices()];
+    for (device, &kind) in drawing.kinds.iter().enumerate() {
+        kinds[places[device]] = kind;
+    }
+    let mut cables: Vec<Cable> = drawing
+        .cables
+        .iter()
+        .map(|cable| moved(random, cable, &places))
+        .collect();
+    random.shuffle(&mut cables);
+    Drawing { kinds, cables }
+}
+
+fn moved(random: &mut Random, cable: &Cable, places: &[usize]) -> Cable {
+    let (a, b) = (places[cable.a], places[cable.b]);
+    let (a, b) = if random.once_in(2) { (a, b) } else { (b, a) };
+    Cable {
+        a,
+        b,
+        kind: cable.kind,
+    }
+}
+
+/// Drawings with many maps onto themselves, all of one device kind and one cable kind.
+pub fn symmetric() -> Vec<Drawing> {
+    let ring = |n: usize| (0..n).map(move |v| (v, (v + 1) % n)).collect::<Vec<_>>();
+    let star = |n: usize| (1..n).map(|v| (0, v)).collect::<Vec<_>>();
+    let complete = |n: usize| {
+        (0..n)
+            .flat_map(move |v| (0..v).map(move |u| (u, v)))
+            .collect::<Vec<_>>()
+    };
+    let bipartite = |n: usize, m: usize| {
+        (0..n)
+            .flat_map(move |u| (n..n + m).map(move |v| (u, v)))
+            .collect::<Vec<_>>()
+    };
+    let wheel = |n: usize| {
+        star(n)
+            .into_iter()
+            .chain((1..n).map(move |v| (v, v % (n - 1) + 1)))
+            .collect::<Vec<_>>()
+    };
+    let prism = |n: usize| {
+        (0..n)
+            .flat_map(move |v| [(v, (v + 1) % n), (v, v + n), (v + n, (v + 1) % n + n)])
+            .collect::<Vec<_>>()
+    };
+    let petersen = (0..5)
+        .flat_map(|v| [(v, (v + 1) % 5), (v, v + 5), (v + 5, (v + 2) % 5 + 5)])
+        .collect::<Vec<_>>();
+    let mut shapes = vec![
+        petersen,
+        wheel(5),
+        wheel(8),
+        prism(3),
+        prism(4),
+        prism(5),
+        star(10),
+    ];
+    shapes.extend((3..=10).map(ring));
+    shapes.extend((2..=7).map(star));
+    shapes.extend((2..=6).map(complete));
+    shapes.extend([(2, 2), (2, 5), (3, 3), (3, 4), (4, 4), (4, 5)].map(|(n, m)| bipartite(n, m)));
+    shapes.iter().map(|pairs| plain(pairs)).collect()
+}
+
+/// Kind 1 and cable 5 throughout.
+pub fn plain(pairs: &[(usize, usize)]) -> Drawing {
+    let devices = pairs
+        .iter()
+        .map(|&(a, b)| a.max(b) + 1)
+        .max()
+        .expect("a cable");
+    let cables = pairs
+        .iter()
+        .map(|&(a, b)| Cable { a, b, kind: 5 })
+        .collect();
+    Drawing {
+        kinds: vec![1; devices],
+        cables,
+    }
+}
+
+/// A pattern that the drawing contains: some of its cables, taken up one after another from any, and their devices.
+pub fn part(random: &mut Random, drawing: &Drawing) -> Drawing {
+    let size = random.between(1, drawing.cables.len());
+    let mut left = drawing.cables.clone();
+    random.shuffle(&mut left);
+    let mut taken = vec![left.pop().expect("a cable")];
+    while taken.len() < size {
+        let touches = |cable: &Cable| {
+            taken
+                .iter()
+                .any(|other| other.has_end(cable.a) || other.has_end(cable.b))
+        };
+        let next = left
+            .iter()
+            .position(touches)
+            .expect("the drawing is connected");
+        taken.push(left.swap_remove(next));
+    }
+    let is_end = |device: &usize| taken.iter().any(|cable| cable.has_end(*device));
+    let devices: Vec<usize> = (0..drawing.devices()).filter(is_end).collect();
+    let number = |device: usize| devices.iter().position(|&d| d == device).expect("an end");
+    let cables = taken
+        .iter()
+        .map(|cable| Cable {
+            a: number(cable.a),
+            b: number(cable.b),
+            kind: cable.kind,
+        })
+        .collect();
+    Drawing {
+        kinds: devices
+            .iter()
+            .map(|&device| drawing.kinds[device])
+            .collect(),
+        cables,
+    }
+}
+
+/// A drawing that differs little: a kind changed, a cable moved, or a cable less, if it stays a drawing.
+pub fn neighbour(random: &mut Random, drawing: &Drawing) -> Drawing {
+    let mut other = drawing.clone();
+    let cable = random.below(other.cables.len());
+    match random.below(4) {
+        0 => other.kinds[random.below(drawing.devices())] ^= 1,
+        1 => other.cables[cable].kind ^= 1,
+        2 => other.cables[cable].a = random.below(drawing.devices()),
+        _ => drop(other.cables.swap_remove(cable)),
+    }
+    Drawing::read(&other.record()).unwrap_or_else(|_| drawing.clone())
+}
+
+/// The record of a drawing with one to three faults. Some of them are none after all: an unused byte that is zero again.
+pub fn damaged_record(random: &mut Random, drawing: &Drawing) -> Vec<u8> {
+    let mut record = drawing.record();
+    for _ in 0..random.between(1, 3) {
+        damage_record(random, drawing, &mut record);
+    }
+    record
+}
+
+fn damage_record(random: &mut Random, drawing: &Drawing, record: &mut Vec<u8>) {
+    let (n, m) = (drawing.devices(), drawing.cables.len());
+    let cable = 12 + 3 * random.below(m);
+    let mut set = |place: usize, value: u8| {
+        if let Some(byte) = record.get_mut(place) {
+            *byte = value;
+        }
+    };
+    match random.below(12) {
+        0 => record.truncate(*random.pick(&[0, 1, 11, RECORD - 1])),
+        1 => record.push(0),
+        2 => set(0, *random.pick(&[0, 1, 11, 255])),
+        3 => set(1, *random.pick(&[0, 21, 255])),
+        4 => set(cable + random.below(2), *random.pick(&[n as u8, 10, 255])),
+        5 => set(cable + random.below(2), random.below(n) as u8),
+        6 => set(cable + 1, drawing.cables[(cable - 12) / 3].a as u8),
+        7 => copy_cable(random, record, m),
+        8 => set(2 + random.between(n, MOST_DEVICES), random.byte()),
+        9 => set(12 + random.between(3 * m, RECORD - 12), random.byte()),
+        10 => set(1, (m - 1) as u8),
+        _ => set(random.below(RECORD), random.byte()),
+    }
+}
+
+/// A cable joins the pair of another one, perhaps the other way round.
+fn copy_cable(random: &mut Random, record: &mut [u8], m: usize) {
+    let (from, to) = (12 + 3 * random.below(m), 12 + 3 * random.below(m));
+    if to + 3 <= record.len() && from + 3 <= record.len() {
+        let (a, b) = (record[from], record[from + 1]);
+        (record[to], record[to + 1]) = if random.once_in(2) { (a, b) } else { (b, a) };
+    }
+}
+
+/// Two drawings side by side, with nothing between them: refusal 8.
+pub fn apart(random: &mut Random) -> Vec<u8> {
+    let shape = Shape {
+        devices: (2, 5),
+        most_cables: 8,
+        kinds: 2,
+    };
+    let (left, right) = (drawing(random, shape), drawing(random, shape));
+    let further = right.cables.iter().map(|cable| Cable {
+        a: cable.a + left.devices(),
+        b: cable.b + left.devices(),
+        ..*cable
+    });
+    let cables = left.cables.iter().copied().chain(further).collect();
+    Drawing {
+        kinds: [left.kinds.clone(), right.kinds.clone()].concat(),
+        cables,
+    }
+    .record()
+}
+
+/// Some DFS code of a drawing.
+pub fn any_code(random: &mut Random, drawing: &Drawing) -> Code {
+    let mut chosen = None;
+    let mut seen = 0;
+    code::for_each_code(drawing, &mut |code| {
+        seen += 1;
+        if random.once_in(seen) {
+            chosen = Some(code);
+        }
+    });
+    chosen.expect("a connected drawing has a DFS code")
+}
+
+/// The bytes of a code with one or two faults. Some of them are none after all.
+pub fn damaged_code(random: &mut Random, code: &Code) -> Vec<u8> {
+    let mut bytes = code::bytes(code);
+    for _ in 0..random.between(1, 2) {
+        damage_code(random, &mut bytes);
+    }
+    bytes
+}
+
+fn damage_code(random: &mut Random, bytes: &mut Vec<u8>) {
+    let records = bytes.len() / code::RECORD;
+    if records == 0 {
+        return;
+    }
+    let at = code::RECORD * random.below(records);
+    match random.below(9) {
+        0 => bytes.truncate(random.below(bytes.len())),
+        1 => bytes.push(0),
+        2 => bytes.extend(vec![0; 100]),
+        3 => bytes[at + random.below(2)] = random.below(11) as u8,
+        4 => bytes.swap(at, at + 1),
+        5 | 6 => bytes[at + random.between(2, 4)] ^= 1,
+        7 => repeat_record(bytes, at),
+        _ => *bytes = [&bytes[..at], &bytes[at + code::RECORD..]].concat(),
+    }
+}
+
+/// A record a second time, right after itself.
+fn repeat_record(bytes: &mut Vec<u8>, at: usize) {
+    let record = bytes[at..at + code::RECORD].to_vec();
+    bytes.splice(at..at, record);
+}

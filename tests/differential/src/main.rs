@@ -1,0 +1,327 @@
+//! Every call of the proved library against another implementation by other algorithms, on seeded inputs: answers, refusals
+//! and every byte of the lent output. Each outcome that a call can have is counted and has to occur.
+//!
+//! The proofs speak of the program as the prover reads it. This looks at what the compiler made of it and at how other
+//! languages call it, and it reads the paper a second time.
+mod calls;
+#[cfg(any(test, feature = "catalogue"))]
+mod catalogue;
+mod code;
+mod drawing;
+mod generate;
+mod map;
+mod random;
+#[cfg(test)]
+mod tests;
+
+use calls::{refused, Calls, FIRST, SECOND};
+use drawing::{Drawing, RECORD};
+use generate::Shape;
+use random::Random;
+use std::process::ExitCode;
+
+/// Another one may be given as the program's argument.
+const SEED: u64 = 20_240_615;
+
+/// The fewest times that each outcome has to occur.
+const TIMES: usize = 5;
+
+const SMALL: Shape = Shape {
+    devices: (2, 6),
+    most_cables: 9,
+    kinds: 2,
+};
+const MIDDLE: Shape = Shape {
+    devices: (5, 8),
+    most_cables: 14,
+    kinds: 3,
+};
+const LARGE: Shape = Shape {
+    devices: (9, 10),
+    most_cables: 20,
+    kinds: 3,
+};
+const PLAIN: Shape = Shape {
+    devices: (2, 7),
+    most_cables: 12,
+    kinds: 1,
+};
+
+/// Mostly small drawings, which take little time; now and then one as large as they get.
+fn any_shape(random: &mut Random) -> Shape {
+    match random.below(100) {
+        0 => LARGE,
+        1..=10 => MIDDLE,
+        11..=40 => PLAIN,
+        _ => SMALL,
+    }
+}
+
+/// Just enough bytes, one too few, more, or none.
+fn room(random: &mut Random, needed: usize) -> usize {
+    match random.below(8) {
+        0 => needed.saturating_sub(1),
+        1 => random.below(needed + 1),
+        2 | 3 => needed,
+        _ => needed + random.below(40),
+    }
+}
+
+/// Drawings that are accepted, drawn twice: coding, sameness, and both ways through a code.
+fn accepted_drawings(calls: &mut Calls, random: &mut Random, drawings: &[Drawing]) {
+    for drawing in drawings {
+        let other = generate::redrawn(random, drawing);
+        let near = generate::neighbour(random, &other);
+        for drawn in [drawing, &other] {
+            let needed = code::RECORD * drawn.cables.len();
+            let room = room(random, needed);
+            calls.code(&drawn.record(), room);
+            calls.code(&drawn.record(), needed);
+        }
+        calls.same(&drawing.record(), &other.record());
+        calls.same(&drawing.record(), &near.record());
+        calls.is_least(&code::bytes(&code::least(drawing)));
+    }
+}
+
+/// Records with faults, alone and as one of two.
+fn damaged_drawings(calls: &mut Calls, random: &mut Random, times: usize) {
+    for _ in 0..times {
+        let drawing = generate::drawing(random, SMALL);
+        let fine = generate::drawing(random, SMALL).record();
+        let damaged = match random.below(8) {
+            0 => generate::apart(random),
+            _ => generate::damaged_record(random, &drawing),
+        };
+        let room = random.below(60);
+        calls.code(&damaged, room);
+        let other = if random.once_in(2) { &fine } else { &damaged };
+        calls.same(&damaged, other);
+        calls.same(other, &damaged);
+        calls.match_drawing(&damaged, other, room);
+        calls.match_drawing(other, &damaged, room);
+    }
+}
+
+/// Codes that are least, codes that are not, and codes with faults.
+fn codes(calls: &mut Calls, random: &mut Random, times: usize) {
+    for _ in 0..times {
+        let shape = any_shape(random);
+        let drawing = generate::drawing(random, shape);
+        let code = generate::any_code(random, &drawing);
+        let fine = code::bytes(&code);
+        let begin = code::bytes(&code[..random.between(1, code.len())]);
+        let other = code::bytes(&generate::any_code(random, &drawing));
+        let damaged = generate::damaged_code(random, &code);
+        for bytes in [&fine, &begin, &damaged] {
+            let room = room(random, RECORD);
+            calls.decode(bytes, room);
+            calls.is_least(bytes);
+        }
+        let all = [&fine, &begin, &other, &damaged];
+        for first in all {
+            let second = random.pick(&all);
+            calls.compare(first, second);
+        }
+    }
+}
+
+/// Patterns that are parts of a drawing, drawn otherwise; such parts with one thing changed; and any two drawings.
+fn matches(calls: &mut Calls, random: &mut Random, times: usize) {
+    for _ in 0..times {
+        let shape = any_shape(random);
+        let drawing = generate::drawing(random, shape);
+        let part = generate::part(random, &drawing);
+        let part = generate::redrawn(random, &part);
+        let near = generate::neighbour(random, &part);
+        let any = generate::drawing(random, PLAIN);
+        for pattern in [&part, &near, &any] {
+            let room = room(random, pattern.devices());
+            calls.match_drawing(&pattern.record(), &drawing.record(), room);
+        }
+    }
+}
+
+/// Patterns of many maps into drawings of many maps.
+fn symmetric_matches(calls: &mut Calls, random: &mut Random, drawings: &[Drawing]) {
+    for pattern in drawings {
+        let drawing = random.pick(drawings);
+        calls.match_drawing(
+            &pattern.record(),
+            &generate::redrawn(random, drawing).record(),
+            drawing::MOST_DEVICES,
+        );
+        calls.match_drawing(
+            &generate::redrawn(random, pattern).record(),
+            &pattern.record(),
+            drawing::MOST_DEVICES,
+        );
+    }
+}
+
+#[cfg(feature = "catalogue")]
+mod surveys {
+    use super::*;
+
+    /// Drawings that have much in common: neighbours of a few.
+    fn survey(random: &mut Random, drawings: usize, shape: Shape) -> Vec<Drawing> {
+        let mut survey = vec![generate::drawing(random, shape)];
+        while survey.len() < drawings {
+            let last = &survey[random.below(survey.len())];
+            let next = if random.once_in(3) {
+                generate::drawing(random, shape)
+            } else {
+                generate::neighbour(random, last)
+            };
+            survey.push(generate::redrawn(random, &next));
+        }
+        survey
+    }
+
+    fn records(survey: &[Drawing]) -> Vec<u8> {
+        survey.iter().flat_map(Drawing::record).collect()
+    }
+
+    /// Surveys that are accepted, with enough bytes or too few.
+    pub fn accepted(
+        calls: &mut Calls,
+        random: &mut Random,
+        times: usize,
+        shape: Shape,
+        most_drawings: usize,
+    ) {
+        for _ in 0..times {
+            let drawings = random.between(1, most_drawings);
+            let survey = survey(random, drawings, shape);
+            let threshold = random.between(1, survey.len() + 1).min(32) as u32;
+            let limit = random.between(1, 8) as u32;
+            let lent = random.below(8);
+            let room = |needed: usize| match lent {
+                0 => needed.saturating_sub(1),
+                1 => needed / 2,
+                2 => 0,
+                3 | 4 => needed,
+                _ => needed + 50,
+            };
+            calls.catalogue(&records(&survey), threshold, limit, room);
+        }
+    }
+
+    /// Settings out of range, lengths out of range, and drawings with faults, at any place of the survey.
+    pub fn damaged(calls: &mut Calls, random: &mut Random, times: usize) {
+        for _ in 0..times {
+            let drawings = *random.pick(&[0, 1, 2, 3, 32, 33]);
+            let mut bytes: Vec<u8> = (0..drawings).flat_map(|_| record(random)).collect();
+            if random.once_in(10) {
+                bytes.push(0);
+            }
+            let threshold = *random.pick(&[0, 1, 2, 32, 33, u32::MAX, 2, 2, 3, 3]);
+            let limit = *random.pick(&[0, 1, 2, 3, 9, u32::MAX, 2, 2, 3, 3]);
+            calls.catalogue(&bytes, threshold, limit, |needed| needed);
+        }
+    }
+
+    /// A drawing's record, now and then with faults, but of the right length.
+    fn record(random: &mut Random) -> Vec<u8> {
+        let drawing = generate::drawing(random, SMALL);
+        let mut record = match random.below(12) {
+            0 => generate::damaged_record(random, &drawing),
+            1 if random.once_in(4) => generate::apart(random),
+            _ => drawing.record(),
+        };
+        record.resize(RECORD, 0);
+        record
+    }
+}
+
+const OF_A_DRAWING: &[u8] = &[1, 2, 3, 4, 5, 6, 7, 8];
+const OF_A_CODE: &[u8] = &[9, 10, 11];
+const OF_THE_OUTPUT: &[u8] = &[15];
+
+/// Every outcome of every call.
+fn outcomes() -> Vec<(&'static str, String)> {
+    let mut outcomes = Vec::new();
+    let mut answers = |call: &'static str, answers: &[&str]| {
+        outcomes.extend(answers.iter().map(|answer| (call, answer.to_string())));
+    };
+    answers("code", &["written"]);
+    answers("decode", &["written"]);
+    answers("is_least", &["yes", "no"]);
+    answers("compare", &["equal", "before", "after"]);
+    answers("match", &["map", "not contained"]);
+    answers("same", &["yes", "no"]);
+    #[cfg(feature = "catalogue")]
+    answers("catalogue", &["entries", "no entry"]);
+
+    let mut refusals = |call: &'static str, numbers: &[u8], whose: &str| {
+        outcomes.extend(numbers.iter().map(|&number| (call, refused(number, whose))));
+    };
+    refusals("code", OF_A_DRAWING, FIRST);
+    refusals("code", OF_THE_OUTPUT, FIRST);
+    refusals("decode", OF_A_CODE, FIRST);
+    refusals("decode", OF_THE_OUTPUT, FIRST);
+    refusals("is_least", OF_A_CODE, FIRST);
+    for whose in [FIRST, SECOND] {
+        refusals("compare", OF_A_CODE, whose);
+        refusals("match", OF_A_DRAWING, whose);
+        refusals("same", OF_A_DRAWING, whose);
+    }
+    refusals("match", OF_THE_OUTPUT, FIRST);
+    #[cfg(feature = "catalogue")]
+    {
+        refusals("catalogue", OF_A_DRAWING, FIRST);
+        refusals("catalogue", &OF_A_DRAWING[1..], calls::LATER);
+        refusals("catalogue", &[12, 13, 14], FIRST);
+        refusals("catalogue", OF_THE_OUTPUT, FIRST);
+    }
+    outcomes
+}
+
+/// Prints how often each outcome occurred; the ones that did not occur often enough.
+fn report(calls: &Calls) -> Vec<(&'static str, String)> {
+    let mut total = 0;
+    for ((call, outcome), times) in calls.seen() {
+        println!("{call:10} {outcome:28} {times:7}");
+        total += times;
+    }
+    println!("{total} calls, each as expected");
+    outcomes()
+        .into_iter()
+        .filter(|outcome| calls.seen().get(outcome).copied().unwrap_or(0) < TIMES)
+        .collect()
+}
+
+fn main() -> ExitCode {
+    let seed = std::env::args()
+        .nth(1)
+        .map_or(SEED, |seed| seed.parse().expect("a number"));
+    let mut calls = Calls::new(!seed);
+    let random = &mut Random::new(seed);
+
+    let any: Vec<Drawing> = (0..3000)
+        .map(|_| {
+            let shape = any_shape(random);
+            generate::drawing(random, shape)
+        })
+        .collect();
+    accepted_drawings(&mut calls, random, &any);
+    accepted_drawings(&mut calls, random, &generate::symmetric());
+    damaged_drawings(&mut calls, random, 5000);
+    codes(&mut calls, random, 2500);
+    matches(&mut calls, random, 2500);
+    symmetric_matches(&mut calls, random, &generate::symmetric());
+    #[cfg(feature = "catalogue")]
+    {
+        surveys::accepted(&mut calls, random, 400, SMALL, 12);
+        surveys::accepted(&mut calls, random, 200, PLAIN, 12);
+        surveys::accepted(&mut calls, random, 40, MIDDLE, 32);
+        surveys::damaged(&mut calls, random, 4000);
+    }
+
+    let missing = report(&calls);
+    if missing.is_empty() {
+        return ExitCode::SUCCESS;
+    }
+    println!("too rare: {missing:?}");
+    ExitCode::FAILURE
+}

@@ -1,0 +1,119 @@
+//! The other implementation by itself, on the drawings that the paper works out.
+use crate::catalogue::{self, Codes, Entry};
+use crate::code::{self, Code, Record};
+use crate::drawing::{Cable, Drawing};
+use crate::generate::plain;
+use crate::map;
+
+const PATH: &[(usize, usize)] = &[(0, 1), (1, 2)];
+const TRIANGLE: &[(usize, usize)] = &[(0, 1), (1, 2), (2, 0)];
+
+/// Kind 1 and cable 5 throughout.
+fn plain_code(pairs: &[(usize, usize)]) -> Code {
+    pairs
+        .iter()
+        .map(|&(i, j)| Record {
+            i,
+            j,
+            ki: 1,
+            c: 5,
+            kj: 1,
+        })
+        .collect()
+}
+
+#[test]
+fn least_codes_of_the_paper() {
+    let d1 = Drawing {
+        kinds: vec![2, 1],
+        cables: vec![Cable {
+            a: 0,
+            b: 1,
+            kind: 7,
+        }],
+    };
+    assert_eq!(code::bytes(&code::least(&d1)), [0, 1, 1, 7, 2]);
+
+    let cables = vec![
+        Cable {
+            a: 0,
+            b: 1,
+            kind: 9,
+        },
+        Cable {
+            a: 0,
+            b: 2,
+            kind: 4,
+        },
+    ];
+    let d2 = Drawing {
+        kinds: vec![1, 2, 3],
+        cables,
+    };
+    assert_eq!(
+        code::bytes(&code::least(&d2)),
+        [0, 1, 1, 4, 3, 0, 2, 1, 9, 2]
+    );
+
+    let tail = [(0, 1), (1, 2), (2, 0), (2, 3)];
+    let ring = [(0, 1), (1, 2), (2, 3), (3, 0)];
+    let star = [(0, 1), (1, 2), (1, 3)];
+    for pairs in [PATH, TRIANGLE, &tail, &ring, &star] {
+        assert_eq!(code::least(&plain(pairs)), plain_code(pairs));
+    }
+}
+
+#[test]
+fn codes_that_are_refused() {
+    let refusal = |pairs: &[(usize, usize)]| code::read(&code::bytes(&plain_code(pairs))).err();
+    assert_eq!(refusal(&[(0, 1), (0, 2)]), None);
+    assert_eq!(refusal(&[(0, 1), (1, 2), (0, 3), (1, 4)]), Some(10));
+    assert_eq!(refusal(&[(0, 1), (1, 0)]), Some(10));
+    assert_eq!(refusal(&[]), Some(9));
+}
+
+#[test]
+fn maps_of_the_paper() {
+    assert_eq!(
+        map::least_map(&plain(PATH), &plain(TRIANGLE)),
+        Some(vec![0, 1, 2])
+    );
+    assert_eq!(map::least_map(&plain(TRIANGLE), &plain(PATH)), None);
+}
+
+#[test]
+fn the_catalogue_of_the_paper() {
+    let survey = [plain(PATH), plain(TRIANGLE)];
+    let entries: Vec<Entry> = [(&PATH[..1], 2), (PATH, 2), (TRIANGLE, 1)]
+        .map(|(pairs, support)| Entry {
+            code: plain_code(pairs),
+            support,
+        })
+        .to_vec();
+    assert_eq!(Codes::default().catalogue(&survey, 1, 4), entries);
+    assert_eq!(Codes::default().catalogue(&survey, 2, 4), entries[..2]);
+
+    let written = catalogue::bytes(&entries);
+    assert_eq!(written.len(), 3 * catalogue::ENTRY);
+    assert_eq!(written[42..56], [2, 2, 0, 1, 1, 5, 1, 1, 2, 1, 5, 1, 0, 0]);
+}
+
+#[test]
+fn surveys_that_are_refused() {
+    let survey = [plain(PATH).record(), plain(TRIANGLE).record()].concat();
+    let refusal = |survey: &[u8], s: u32, l: u32| {
+        catalogue::read(survey, s, l)
+            .err()
+            .map(|r| (r.number, r.drawing))
+    };
+    assert_eq!(refusal(&survey, 2, 4), None);
+    assert_eq!(refusal(&survey[1..], 33, 0), Some((12, 0)));
+    assert_eq!(refusal(&survey[1..], 32, 9), Some((13, 0)));
+    assert_eq!(refusal(&survey[1..], 32, 8), Some((1, 0)));
+    assert_eq!(refusal(&[], 1, 1), Some((14, 0)));
+    assert_eq!(refusal(&survey.repeat(17), 1, 1), Some((14, 0)));
+    assert_eq!(
+        refusal(&[&survey[..], &[11; 72]].concat(), 1, 1),
+        Some((2, 2))
+    );
+}

@@ -202,7 +202,6 @@ pub fn same(first: &[u8], second: &[u8]) -> Result<bool, Refusal> {
 ///
 /// There is an entry for each pattern of at most `limit` cables that at least `threshold` drawings contain; codes rise. Where
 /// the entries don't fit, the whole output is zero and the refusal is [`Refusal::OutputLength`].
-#[cfg(feature = "catalogue")]
 pub fn catalogue(
     survey: &[u8],
     threshold: u32,
@@ -217,7 +216,6 @@ pub fn catalogue(
 }
 
 /// The drawing at fault. A survey's own length is no drawing's fault, so that 1 names none.
-#[cfg(feature = "catalogue")]
 fn faulty_drawing(refusal: Refusal, returned: u64) -> Option<usize> {
     let in_a_drawing = Refusal::DeviceCount <= refusal && refusal <= Refusal::NotConnected;
     in_a_drawing.then_some((returned >> 40) as usize)

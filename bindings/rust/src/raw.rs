@@ -35,7 +35,6 @@ mod linked {
             second: *const u8,
             second_length: usize,
         ) -> u64;
-        #[cfg(feature = "catalogue")]
         pub fn holvreiz_catalogue(
             survey: *const u8,
             survey_length: usize,
@@ -97,7 +96,6 @@ pub fn same(first: &[u8], second: &[u8]) -> u64 {
 }
 
 /// The catalogue of a survey. Count: entries.
-#[cfg(feature = "catalogue")]
 pub fn catalogue(survey: &[u8], threshold: u32, limit: u32, output: &mut [u8]) -> u64 {
     unsafe {
         linked::holvreiz_catalogue(

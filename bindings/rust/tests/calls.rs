@@ -110,7 +110,6 @@ fn whether_two_drawings_are_the_same() {
     );
 }
 
-#[cfg(feature = "catalogue")]
 #[test]
 fn the_catalogue_of_a_survey() {
     let survey = [

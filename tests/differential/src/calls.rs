@@ -1,6 +1,5 @@
 //! One call of the library at a time, held against the answer and the output that the other implementation expects. The lent
 //! output stands between guard bytes.
-#[cfg(feature = "catalogue")]
 use crate::catalogue::{self, Codes};
 use crate::code;
 use crate::drawing::{Drawing, RECORD};
@@ -16,7 +15,6 @@ const GUARD: usize = 24;
 /// Whose refusal it is.
 pub const FIRST: &str = "";
 pub const SECOND: &str = ", the second";
-#[cfg(feature = "catalogue")]
 pub const LATER: &str = ", a later drawing";
 
 pub fn refused(number: u8, whose: &str) -> String {
@@ -75,7 +73,6 @@ fn in_front(bytes: &[u8], output: &[u8]) -> Vec<u8> {
 pub struct Calls {
     seen: BTreeMap<(&'static str, String), usize>,
     random: Random,
-    #[cfg(feature = "catalogue")]
     codes: Codes,
 }
 
@@ -84,7 +81,6 @@ impl Calls {
         Calls {
             seen: BTreeMap::new(),
             random: Random::new(seed),
-            #[cfg(feature = "catalogue")]
             codes: Codes::default(),
         }
     }
@@ -212,7 +208,6 @@ impl Calls {
     }
 
     /// The catalogue with as many bytes lent as `room` makes of those that the entries need.
-    #[cfg(feature = "catalogue")]
     pub fn catalogue(
         &mut self,
         survey: &[u8],

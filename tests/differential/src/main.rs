@@ -4,7 +4,6 @@
 //! The proofs speak of the program as the prover reads it. This looks at what the compiler made of it and at how other
 //! languages call it, and it reads the paper a second time.
 mod calls;
-#[cfg(any(test, feature = "catalogue"))]
 mod catalogue;
 mod code;
 mod drawing;
@@ -159,7 +158,6 @@ fn symmetric_matches(calls: &mut Calls, random: &mut Random, drawings: &[Drawing
     }
 }
 
-#[cfg(feature = "catalogue")]
 mod surveys {
     use super::*;
 
@@ -250,7 +248,6 @@ fn outcomes() -> Vec<(&'static str, String)> {
     answers("compare", &["equal", "before", "after"]);
     answers("match", &["map", "not contained"]);
     answers("same", &["yes", "no"]);
-    #[cfg(feature = "catalogue")]
     answers("catalogue", &["entries", "no entry"]);
 
     let mut refusals = |call: &'static str, numbers: &[u8], whose: &str| {
@@ -267,7 +264,6 @@ fn outcomes() -> Vec<(&'static str, String)> {
         refusals("same", OF_A_DRAWING, whose);
     }
     refusals("match", OF_THE_OUTPUT, FIRST);
-    #[cfg(feature = "catalogue")]
     {
         refusals("catalogue", OF_A_DRAWING, FIRST);
         refusals("catalogue", &OF_A_DRAWING[1..], calls::LATER);
@@ -310,7 +306,6 @@ fn main() -> ExitCode {
     codes(&mut calls, random, 2500);
     matches(&mut calls, random, 2500);
     symmetric_matches(&mut calls, random, &generate::symmetric());
-    #[cfg(feature = "catalogue")]
     {
         surveys::accepted(&mut calls, random, 400, SMALL, 12);
         surveys::accepted(&mut calls, random, 200, PLAIN, 12);

@@ -22,7 +22,12 @@ fn catalogued_number(answer: Catalogued) -> u64
 // The catalogue of a survey: the patterns of at most `limit` cables that at least `threshold` drawings contain. The count is
 // the number of entries written.
 #[no_mangle]
-pub extern "C" fn holvreiz_catalogue(survey: &[u8], threshold: u32, limit: u32, output: &mut [u8]) -> u64
+pub extern "C" fn holvreiz_catalogue(
+    survey: &[u8],
+    threshold: u32,
+    limit: u32,
+    output: &mut [u8],
+) -> u64
     ensures { λ r. ⌜ Catalogue-returns (now (survey .entry)) threshold limit r (now (output .entry)) (now (output .exit)) ⌝ }
 {
     catalogued_number(write_catalogue(survey, threshold, limit, output))

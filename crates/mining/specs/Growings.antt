@@ -2,6 +2,7 @@
 use mathlib.Core.Path.{_≡_}
 use mathlib.Core.List.{List, [], _∷_}
 use Prim.Native.Nat.{ℕ, _+_, _-_, _/_, _%_, _≤_, _<_}
+use lib.ListN.{length}
 use Rattle.laws.specs.Lists.{snoc}
 use Rattle.codes.specs.Code.{Rec, Reading, fresh, rows-refusal, read-rows}
 use Rattle.coding.specs.declared.reading.Reading as held
@@ -38,6 +39,20 @@ pub record Can-read (h : held.Reading) (kind : ℕ) (rank alphabet : List ℕ) (
   pub byte : record-at (basis kind (records-of h)) alphabet n place .c < 256
   pub below : place < 20480
   pub some : 0 < n
+
+-- by a program that is lent the kinds and the number of the devices held
+pub record Can-read-off (kinds : List ℕ) (devices kind : ℕ) (alphabet : List ℕ) (n place : ℕ) : Type 0 where
+  pub wide : length kinds ≡ 10
+  pub held-by : held.Reading
+  pub kinds-are : held-by .kinds ≡ kinds
+  pub devices-are : held-by .devices ≡ devices
+  pub rank : List ℕ
+  pub can-read : Can-read held-by kind rank alphabet n place
+
+pub record Read-off (kinds : List ℕ) (devices kind : ℕ) (alphabet : List ℕ) (n place : ℕ) (r : Rec) : Type 0 where
+  pub told :
+      (h : held.Reading) → h .kinds ≡ kinds → h .devices ≡ devices → (rank : List ℕ) → Can-read h kind rank alphabet n place
+      → r ≡ record-at (basis kind (records-of h)) alphabet n place
 
 -- a record that may come next
 pub record Can-grow (h : held.Reading) (e : Rec) : Type 0 where

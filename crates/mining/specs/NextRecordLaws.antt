@@ -1,5 +1,5 @@
 -- The record at a place, read off what the program holds. Rests on PlaceLaws and GrowingLaws. Assumes nothing.
-use mathlib.Core.Path.{_≡_, sym, ap, _∙_, subst}
+use mathlib.Core.Path.{_≡_, sym, ap, ap₂, _∙_, subst}
 use mathlib.Core.List.{List}
 use Prim.Native.Nat.{ℕ, _-_, _/_, _%_, _≤_, _<_}
 use native.Mathlib.Nat.{mod-lt}
@@ -11,8 +11,9 @@ use Rattle.codes.specs.Code.{Rec, Reading, end}
 use Rattle.codes.specs.CodeOrder.{rec-eq}
 use Rattle.codes.specs.BranchState.{label-of}
 use Rattle.coding.specs.declared.reading.Reading as held
-use Rattle.coding.specs.Readings.{as-reading, Begun}
-use Rattle.coding.specs.ReadingLaws.{devices-some, devices-is}
+use Rattle.coding.specs.Readings as readings
+use Rattle.coding.specs.Readings.{as-reading, Begun, Sound}
+use Rattle.coding.specs.ReadingLaws.{devices-some, devices-is, sound-begun}
 use Rattle.growth.specs.Places.{row-of, place-of, record-at}
 use Rattle.growth.specs.PlaceLaws.{
   Position,
@@ -27,7 +28,7 @@ use Rattle.growth.specs.PlaceLaws.{
   row-below,
 }
 use Rattle.growth.specs.PlacedRecords.{alone}
-use Rattle.mining.specs.Growings.{records-of, basis, labelled, Can-read}
+use Rattle.mining.specs.Growings.{records-of, basis, labelled, Can-read, Can-read-off, Read-off}
 use Rattle.mining.specs.GrowingLaws.{basis-alone, basis-held}
 
 -- A PLACED RECORD'S PLACE gives its row and its label
@@ -123,3 +124,37 @@ module _ {h : held.Reading} {kind : ℕ} {rank alphabet : List ℕ} {n place : �
         go (forward-at d j l) =
             let from : 15 - place / n ≡ next .i = omega (arith, row-is, row-forward next d) in
             labelled-next _ _ _ from (sym (j ∙ count)) (kind-held (15 - place / n) (omega (arith, from, d, j, count)) from)
+
+-- READ OFF the kinds and the number of devices that are lent
+module _ {kinds : List ℕ} {devices kind : ℕ} {alphabet : List ℕ} {n place : ℕ} (r : Rec) where
+  pub off-first : devices ≡ 0 → r ≡ labelled 0 1 kind (getD alphabet (place % n) 0) → Read-off kinds devices kind alphabet n place r
+  off-first none e = record { told = λ h k d rank c. e ∙ first-read c (d ∙ none) }
+
+  module _ (some : devices ≡ 0 → ⊥) (wide : length kinds ≡ 10) where
+    pub off-backward :
+        place / n < 8 → r ≡ labelled (devices - 1) (place / n) (getD kinds (devices - 1) 0) (getD alphabet (place % n) 0)
+        → Read-off kinds devices kind alphabet n place r
+    off-backward low e =
+        record {
+          told = λ h k d rank c.
+              e ∙ ap₂ {C = Rec} (λ ks m. labelled (m - 1) (place / n) (getD ks (m - 1) 0) (getD alphabet (place % n) 0)) (sym k) (sym d)
+              ∙ backward-read c (sound-begun h (c .holding .sound) (λ z. some (sym d ∙ z))) (ap length k ∙ wide) low;
+        }
+
+    pub off-forward :
+        8 ≤ place / n → r ≡ labelled (15 - place / n) devices (getD kinds (15 - place / n) 0) (getD alphabet (place % n) 0)
+        → Read-off kinds devices kind alphabet n place r
+    off-forward high e =
+        record {
+          told = λ h k d rank c.
+              e ∙ ap₂ {C = Rec} (λ ks m. labelled (15 - place / n) m (getD ks (15 - place / n) 0) (getD alphabet (place % n) 0)) (sym k) (sym d)
+              ∙ forward-read c (sound-begun h (c .holding .sound) (λ z. some (sym d ∙ z))) (ap length k ∙ wide) high;
+        }
+
+-- devices that are held are at most ten
+pub off-most : {kinds : List ℕ} {devices kind : ℕ} {alphabet : List ℕ} {n place : ℕ} → Can-read-off kinds devices kind alphabet n place → devices ≤ 10
+off-most p = go (p .can-read .holding .sound) (p .devices-are)
+  where
+    go : {h : held.Reading} {m : ℕ} → Sound h → h .devices ≡ m → m ≤ 10
+    go (readings.not-begun b) e = omega (arith, b .no-device)
+    go (readings.begun b) e = omega (arith, b .devices-most)

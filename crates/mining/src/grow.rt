@@ -145,12 +145,14 @@ pub fn walk(
     let code = held.code;
     let bytes = code.records;
     let cables = code.count;
+    let kinds = held.kinds;
+    let devices = held.devices;
     let n = settings.labels;
     let mut written = count;
     for k in from..top {
         let candidate = list[k];
         let place = (candidate / PLACE) as usize;
-        let next = next_record(held, kind, alphabet, n, place);
+        let next = next_record(&kinds, devices, kind, alphabet, n, place);
         if !hopeless(&bytes, cables, next) {
             let Growth::To(more) = grow(
                 survey,

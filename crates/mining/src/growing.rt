@@ -5,11 +5,9 @@ use branches::table::other_kind;
 use coding::reading::Reading;
 use coding::reading::Step;
 ghost use mathlib.Core.Path.{_≡_};
-ghost use mathlib.Core.List.{List};
-ghost use Prim.Native.Nat.{ℕ, _<_, _≤_};
+ghost use Prim.Native.Nat.{_<_, _≤_};
 ghost use Rattle.branches.specs.Records.{as-rec};
-ghost use Rattle.growth.specs.Places.{record-at};
-ghost use Rattle.mining.specs.Growings.{records-of, basis, labelled, Can-read, Can-grow, Grows};
+ghost use Rattle.mining.specs.Growings.{labelled, Can-read-off, Read-off, Can-grow, Grows};
 
 // Rows below this one are of backward records, by the device that they go to.
 const BACKWARD_ROWS: usize = 8;
@@ -34,27 +32,27 @@ fn labelled(i: usize, j: usize, ki: u8, l: u32) -> Record
 // The record at a place after the records held: a backward one from the newest device, or a forward one to a new device.
 // Where no record is held yet, device 0 alone is there, of this kind.
 pub fn next_record(
-    held: Reading,
+    kinds: &[u8; 10],
+    devices: usize,
     kind: u8,
     alphabet: &[u32; 1280],
     n: usize,
     place: usize,
 ) -> Record
-    requires { ⌜ ((rank : List ℕ) × Can-read held kind rank (now alphabet) n place) ⌝ }
-    ensures { λ r. ⌜ as-rec r ≡ record-at (basis kind (records-of held)) (now (alphabet .entry)) n place ⌝ }
+    requires { ⌜ Can-read-off (now kinds) devices kind (now alphabet) n place ⌝ }
+    ensures { λ r. ⌜ Read-off (now (kinds .entry)) devices kind (now (alphabet .entry)) n place (as-rec r) ⌝ }
 {
     let row = place / n;
     let l = alphabet[place % n];
-    let devices = held.devices;
     if devices == 0 {
         return labelled(0, 1, kind, l);
     }
     if row < BACKWARD_ROWS {
         let newest = devices - 1;
-        return labelled(newest, row, held.kinds[newest], l);
+        return labelled(newest, row, kinds[newest], l);
     }
     let from = LAST_ROW - row;
-    labelled(from, devices, held.kinds[from], l)
+    labelled(from, devices, kinds[from], l)
 }
 
 // The code with one record more. That record is a permitted step, so the code is never left as it was.

@@ -6,8 +6,9 @@ use mathlib.Core.Logic.{⊎-elim}
 use Prim.Native.Nat.{ℕ, _+_, _*_, _-_, _/_, _^_, _<_, _≤_}
 use native.Mathlib.Omega.{arith}
 use borrow.Author.Needs.{needs}
-use lib.ListN.{getD}
+use lib.ListN.{length, getD}
 use Rattle.codes.specs.Code.{Rec}
+use Rattle.branches.specs.Records.{as-rec}
 use Rattle.growth.specs.Places.{record-at}
 use Rattle.mining.specs.Growings.{records-of, basis, Grows}
 use Rattle.mining.specs.Growths.{On-the-way, Grew, Put}
@@ -156,15 +157,15 @@ grow-same-length-4 : (t : ℕ) → grow-lts.Need-same-length-4 (grow-claims t) (
 grow-same-length-4 t c = grow-returns-4 t c .size
 
 abbrev walk-Inv-loop : walk-lts.InvT-loop
-walk-Inv-loop survey labels rank alphabet settings held kind cells₀ seen₀ list₀ from top output₀ count bytes cables n written₀ k₀ cells seen list output written k =
+walk-Inv-loop survey labels rank alphabet settings held kind cells₀ seen₀ list₀ from top output₀ count bytes cables kinds devices n written₀ k₀ cells seen list output written k =
     On-the-way survey alphabet settings kind (records-of held) list₀ from top output₀ count k cells seen list output written
 
 abbrev walk-μ-loop : walk-lts.MeasureT-loop
-walk-μ-loop survey labels rank alphabet settings held kind cells₀ seen₀ list₀ from top output₀ count bytes cables n written₀ k₀ cells seen list output written k =
+walk-μ-loop survey labels rank alphabet settings held kind cells₀ seen₀ list₀ from top output₀ count bytes cables kinds devices n written₀ k₀ cells seen list output written k =
     top - k
 
 walk-loop-holds : (t : ℕ) → walk-lts.Need-loop-holds (walk-claims t) (walk-at t) walk.Post walk-Inv-loop walk-μ-loop
-walk-loop-holds t c = walk-starts (c .before .before .before .before .pre .1)
+walk-loop-holds t c = walk-starts (c .before .before .before .before .before .pre .1)
 
 walk-mul-candidate : (t : ℕ) → walk-lts.Need-mul-candidate (walk-claims t) (walk-at t) walk.Post walk-Inv-loop walk-μ-loop
 walk-mul-candidate t c = search needs
@@ -172,44 +173,53 @@ walk-mul-candidate t c = search needs
 walk-element-copy-out-candidate : (t : ℕ) → walk-lts.Need-element-copy-out-candidate (walk-claims t) (walk-at t) walk.Post walk-Inv-loop walk-μ-loop
 walk-element-copy-out-candidate t c = search needs
 
+wide : (t : ℕ) (c : walk-lts.Start (walk-claims t) (walk-at t) walk.Post walk-Inv-loop walk-μ-loop) → length (c .args .held .kinds) ≡ 10
+wide t c = search needs
+
 walk-next-record-requires : (t : ℕ) → walk-lts.Need-next-record-requires (walk-claims t) (walk-at t) walk.Post walk-Inv-loop walk-μ-loop
 walk-next-record-requires t c κs =
-    let s = c .before .before .before .before .before .before .before in
-    let l = c .before .before .loop in
-    (s .args .rank .now, walk-reads (s .pre .1) (l .k) (l .inv .low) (c .before .loop-test .taken) _ (l .inv .kept .below (l .k) (c .before .loop-test .taken)))
+    let s = c .before .before .before .before .before .before .before .before .before in
+    record {
+      wide = wide t s;
+      held-by = s .args .held;
+      kinds-are = refl;
+      devices-are = refl;
+      rank = s .args .rank .now;
+      can-read = walk-reads (c .before .before .before .before .before .before .before .before .before .pre .1) (c .before .before .before .loop .k) (c .before .before .before .loop .inv .low) (c .before .before .loop-test .taken) _ (c .before .before .before .loop .inv .kept .below (c .before .before .before .loop .k) (c .before .before .loop-test .taken));
+    }
+
+-- the record at the candidate's place
+told :
+    (t : ℕ) (c : walk-lts.After-next-record (walk-claims t) (walk-at t) walk.Post walk-Inv-loop walk-μ-loop)
+    → let s = c .before .before .before .before .before .before .before .before .before .before in
+    let l = c .before .before .before .before .loop in
+    as-rec (c .next-record .result)
+    ≡ record-at (basis (s .args .kind) (records-of (s .args .held))) (s .args .alphabet .now) (s .args .settings .labels) (getD (l .list) (l .k) 0 / (2 ^ 40))
+told t c =
+    let s = c .before .before .before .before .before .before .before .before .before .before in
+    c .next-record .ensures .told (s .args .held) refl refl (s .args .rank .now) (walk-reads (c .before .before .before .before .before .before .before .before .before .before .pre .1) (c .before .before .before .before .loop .k) (c .before .before .before .before .loop .inv .low) (c .before .before .before .loop-test .taken) _ (c .before .before .before .before .loop .inv .kept .below (c .before .before .before .before .loop .k) (c .before .before .before .loop-test .taken)))
 
 walk-hopeless-requires : (t : ℕ) → walk-lts.Need-hopeless-requires (walk-claims t) (walk-at t) walk.Post walk-Inv-loop walk-μ-loop
-walk-hopeless-requires t c κs =
-    let s = c .before .before .before .before .before .before .before .before .before in
-    let l = c .before .before .before .before .loop in
-    walk-looks (s .pre .1) (l .k) (l .inv .low) (c .before .before .before .loop-test .taken) _ (l .inv .kept .below (l .k) (c .before .before .before .loop-test .taken)) _ (c .before .next-record .ensures)
+walk-hopeless-requires t c κs = walk-looks (c .before .before .before .before .before .before .before .before .before .before .before .pre .1) (c .before .before .before .before .before .loop .k) (c .before .before .before .before .before .loop .inv .low) (c .before .before .before .before .loop-test .taken) _ (c .before .before .before .before .before .loop .inv .kept .below (c .before .before .before .before .before .loop .k) (c .before .before .before .before .loop-test .taken)) _ (told t (c .before))
 
 walk-grown-requires : (t : ℕ) → walk-lts.Need-grown-requires (walk-claims t) (walk-at t) walk.Post walk-Inv-loop walk-μ-loop
-walk-grown-requires t c κs =
-    let s = c .before .before .before .before .before .before .before .before .before .before .before in
-    let l = c .before .before .before .before .before .before .loop in
-    walk-grows (s .pre .1) (l .k) (l .inv .low) (c .before .before .before .before .before .loop-test .taken) _ (l .inv .kept .below (l .k) (c .before .before .before .before .before .loop-test .taken)) _ (c .before .before .before .next-record .ensures)
+walk-grown-requires t c κs = walk-grows (c .before .before .before .before .before .before .before .before .before .before .before .before .before .pre .1) (c .before .before .before .before .before .before .before .loop .k) (c .before .before .before .before .before .before .before .loop .inv .low) (c .before .before .before .before .before .before .loop-test .taken) _ (c .before .before .before .before .before .before .before .loop .inv .kept .below (c .before .before .before .before .before .before .before .loop .k) (c .before .before .before .before .before .before .loop-test .taken)) _ (told t (c .before .before .before))
 
--- the code grown by the candidate's record
+-- the code grown by it
 turn :
     (t : ℕ) (c : walk-lts.After-grown (walk-claims t) (walk-at t) walk.Post walk-Inv-loop walk-μ-loop)
-    → let s = c .before .before .before .before .before .before .before .before .before .before .before .before in
-    let l = c .before .before .before .before .before .before .before .loop in
+    → let s = c .before .before .before .before .before .before .before .before .before .before .before .before .before .before in
+    let l = c .before .before .before .before .before .before .before .before .loop in
     Grows (s .args .held)
     (record-at (basis (s .args .kind) (records-of (s .args .held))) (s .args .alphabet .now) (s .args .settings .labels) (getD (l .list) (l .k) 0 / (2 ^ 40)))
     (c .grown .result)
-turn t c =
-    let s = c .before .before .before .before .before .before .before .before .before .before .before .before in
-    subst (λ (e : Rec). Grows (s .args .held) e (c .grown .result)) (c .before .before .before .before .next-record .ensures) (c .grown .ensures)
+turn t c = subst (λ (e : Rec). Grows (c .before .before .before .before .before .before .before .before .before .before .before .before .before .before .args .held) e (c .grown .result)) (told t (c .before .before .before .before)) (c .grown .ensures)
 
 walk-grow-requires : (t : ℕ) → walk-lts.Need-grow-requires (walk-claims t) (walk-at t) walk.Post walk-Inv-loop walk-μ-loop
 walk-grow-requires t c κs =
-    let s = c .before .before .before .before .before .before .before .before .before .before .before .before .before .before .before .before in
-    let l = c .before .before .before .before .before .before .before .before .before .before .before .loop in
-    let r = turn t (c .before .before .before .before) in (
-      omega (arith, s .pre .0, s .pre .1 .more, r .count),
-      walk-grows-on (s .pre .1) (l .k) (l .inv .low) (c .before .before .before .before .before .before .before .before .before .before .loop-test .taken) _ (l .inv .kept .below (l .k) (c .before .before .before .before .before .before .before .before .before .before .loop-test .taken)) r (l .inv),
-    )
+    let s = c .before .before .before .before .before .before .before .before .before .before .before .before .before .before .before .before .before .before in
+    let r = turn t (c .before .before .before .before) in
+    (omega (arith, s .pre .0, s .pre .1 .more, r .count), walk-grows-on (c .before .before .before .before .before .before .before .before .before .before .before .before .before .before .before .before .before .before .pre .1) (c .before .before .before .before .before .before .before .before .before .before .before .before .loop .k) (c .before .before .before .before .before .before .before .before .before .before .before .before .loop .inv .low) (c .before .before .before .before .before .before .before .before .before .before .before .loop-test .taken) _ (c .before .before .before .before .before .before .before .before .before .before .before .before .loop .inv .kept .below (c .before .before .before .before .before .before .before .before .before .before .before .before .loop .k) (c .before .before .before .before .before .before .before .before .before .before .before .loop-test .taken)) r (c .before .before .before .before .before .before .before .before .before .before .before .before .loop .inv))
 
 walk-enum-known-more : (t : ℕ) → walk-lts.Need-enum-known-more (walk-claims t) (walk-at t) walk.Post walk-Inv-loop walk-μ-loop
 walk-enum-known-more t c = search needs
@@ -218,19 +228,16 @@ walk-enum-told : (t : ℕ) → walk-lts.Need-enum-told (walk-claims t) (walk-at 
 walk-enum-told t c = search needs
 
 walk-same-length : (t : ℕ) → walk-lts.Need-same-length (walk-claims t) (walk-at t) walk.Post walk-Inv-loop walk-μ-loop
-walk-same-length t c = c .before .before .before .before .grow .ensures .size ∙ c .before .before .before .before .before .before .before .before .before .before .before .before .before .before .before .before .loop .inv .size
+walk-same-length t c = c .before .before .before .before .grow .ensures .size ∙ c .before .before .before .before .before .before .before .before .before .before .before .before .before .before .before .before .before .loop .inv .size
 
 walk-returns : (t : ℕ) → walk-lts.Need-returns (walk-claims t) (walk-at t) walk.Post walk-Inv-loop walk-μ-loop
 walk-returns t c =
-    let s = c .before .before .before .before .before .before .before .before .before .before .before .before .before .before .before .before .before .before .before .before .before in
-    let l = c .before .before .before .before .before .before .before .before .before .before .before .before .before .before .before .before .loop in
-    walk-full (s .pre .1) (l .k) (l .inv .low) (c .before .before .before .before .before .before .before .before .before .before .before .before .before .before .before .loop-test .taken) _ (l .inv .kept .below (l .k) (c .before .before .before .before .before .before .before .before .before .before .before .before .before .before .before .loop-test .taken)) (turn t (c .before .before .before .before .before .before .before .before .before)) (l .inv)
-    (rw (c .enum-told .given .1) at (c .before .before .before .before .grow .ensures))
+    walk-full (c .before .before .before .before .before .before .before .before .before .before .before .before .before .before .before .before .before .before .before .before .before .before .before .pre .1) (c .before .before .before .before .before .before .before .before .before .before .before .before .before .before .before .before .before .loop .k) (c .before .before .before .before .before .before .before .before .before .before .before .before .before .before .before .before .before .loop .inv .low) (c .before .before .before .before .before .before .before .before .before .before .before .before .before .before .before .before .loop-test .taken) _ (c .before .before .before .before .before .before .before .before .before .before .before .before .before .before .before .before .before .loop .inv .kept .below (c .before .before .before .before .before .before .before .before .before .before .before .before .before .before .before .before .before .loop .k) (c .before .before .before .before .before .before .before .before .before .before .before .before .before .before .before .before .loop-test .taken)) (turn t (c .before .before .before .before .before .before .before .before .before)) (c .before .before .before .before .before .before .before .before .before .before .before .before .before .before .before .before .before .loop .inv) (rw (c .enum-told .given .1) at (c .before .before .before .before .grow .ensures))
 
 walk-add-k : (t : ℕ) → walk-lts.Need-add-k (walk-claims t) (walk-at t) walk.Post walk-Inv-loop walk-μ-loop
 walk-add-k t c =
-    let a = c .before .before .before .before .before .before .before .before .before .before .before .pre .1 in
-    omega (arith, c .before .before .before .before .before .loop-test .taken, a .at-hand .room, a .more, a .set-up .small)
+    let a = c .before .before .before .before .before .before .before .before .before .before .before .before .before .pre .1 in
+    omega (arith, c .before .before .before .before .before .before .loop-test .taken, a .at-hand .room, a .more, a .set-up .small)
 
 walk-loop-less : (t : ℕ) → walk-lts.Need-loop-less (walk-claims t) (walk-at t) walk.Post walk-Inv-loop walk-μ-loop
 walk-loop-less t c = search needs
@@ -242,13 +249,12 @@ said false e = absurd (true≢false e)
 
 walk-loop-again : (t : ℕ) → walk-lts.Need-loop-again (walk-claims t) (walk-at t) walk.Post walk-Inv-loop walk-μ-loop
 walk-loop-again t c =
-    let s = c .before .before .before .before .before .before .before .before .before .before .before in
-    let l = c .before .before .before .before .before .before .loop in
-    let h = c .before .before .before .before .before .loop-test .taken in
+    let s = c .before .before .before .before .before .before .before .before .before .before .before .before .before in
+    let l = c .before .before .before .before .before .before .before .loop in
     ⊎-elim
-    (λ w. rw (w .12, w .13, w .14, w .15, w .16) (walk-next (s .pre .1) (l .k) (l .inv .low) h _ (l .inv .kept .below (l .k) h)
-    (subst (λ (e : Rec). Grows (s .args .held) e (w .1 .result)) (c .before .before .before .next-record .ensures) (w .1 .ensures)) (l .inv) (rw (w .10 .given .1) at (w .6 .ensures))))
-    (λ w. rw (w .1, w .2, w .3, w .4, w .5) (walk-passed (s .pre .1) (l .k) (l .inv .low) h _ (l .inv .kept .below (l .k) h) _ (c .before .before .before .next-record .ensures)
+    (λ w. rw (w .12, w .13, w .14, w .15, w .16) (walk-next (c .before .before .before .before .before .before .before .before .before .before .before .before .before .pre .1) (c .before .before .before .before .before .before .before .loop .k) (c .before .before .before .before .before .before .before .loop .inv .low) (c .before .before .before .before .before .before .loop-test .taken) _ (c .before .before .before .before .before .before .before .loop .inv .kept .below (c .before .before .before .before .before .before .before .loop .k) (c .before .before .before .before .before .before .loop-test .taken))
+    (subst (λ (e : Rec). Grows (s .args .held) e (w .1 .result)) (told t (c .before .before .before)) (w .1 .ensures)) (l .inv) (rw (w .10 .given .1) at (w .6 .ensures))))
+    (λ w. rw (w .1, w .2, w .3, w .4, w .5) (walk-passed (c .before .before .before .before .before .before .before .before .before .before .before .before .before .pre .1) (c .before .before .before .before .before .before .before .loop .k) (c .before .before .before .before .before .before .before .loop .inv .low) (c .before .before .before .before .before .before .loop-test .taken) _ (c .before .before .before .before .before .before .before .loop .inv .kept .below (c .before .before .before .before .before .before .before .loop .k) (c .before .before .before .before .before .before .loop-test .taken)) _ (told t (c .before .before .before))
     (c .before .hopeless .ensures .not-least (said (c .before .hopeless .result) (w .0 .left))) (l .inv)))
     (c .if1 .came)
 
@@ -256,7 +262,7 @@ walk-same-length-2 : (t : ℕ) → walk-lts.Need-same-length-2 (walk-claims t) (
 walk-same-length-2 t c = search needs
 
 walk-returns-2 : (t : ℕ) → walk-lts.Need-returns-2 (walk-claims t) (walk-at t) walk.Post walk-Inv-loop walk-μ-loop
-walk-returns-2 t c = walk-ends (c .before .before .before .before .before .before .pre .1) (omega (arith, c .loop-test .left)) (c .before .loop .inv)
+walk-returns-2 t c = walk-ends (c .before .before .before .before .before .before .before .pre .1) (omega (arith, c .loop-test .left)) (c .before .loop .inv)
 
 pub +grow+walk-spec : {M : Type 1} → statement M
 +grow+walk-spec = close μ-grow μ-walk (λ t. grow-lts.spec (grow-claims t)

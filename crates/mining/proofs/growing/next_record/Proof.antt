@@ -2,19 +2,9 @@
 use mathlib.Core.Path.{_≡_, _∙_}
 use native.Mathlib.Omega.{arith}
 use borrow.Author.Needs.{needs}
-use lib.ListN.{length}
-use Rattle.coding.specs.Readings.{Begun}
-use Rattle.coding.specs.ReadingLaws.{sound-begun}
-use Rattle.mining.specs.NextRecordLaws.{row-most, rank-below, label-some, label-most, first-read, backward-read, forward-read}
+use Rattle.mining.specs.NextRecordLaws.{row-most, rank-below, label-some, label-most, off-first, off-backward, off-forward, off-most}
 use Rattle.mining.proofs.growing.next_record.Statement.{statement}
 use Rattle.mining.proofs.growing.next_record.Tie as tie
-
-wide : (s : tie.Start) → length (s .args .t1 .kinds) ≡ 10
-wide s = search needs
-
--- a record is held
-begun : (s : tie.Start) → (s .args .t1 .devices ≡ 0 → ⊥) → Begun (s .args .t1)
-begun s some = sound-begun (s .args .t1) (s .pre .1 .holding .sound) some
 
 div-row : tie.Need-div-row
 div-row c = search needs
@@ -23,37 +13,36 @@ rem-l : tie.Need-rem-l
 rem-l c = search needs
 
 mul-l : tie.Need-mul-l
-mul-l c = omega (arith, rank-below (c .pre .1))
+mul-l c = omega (arith, rank-below (c .pre .can-read))
 
 element-copy-out-l : tie.Need-element-copy-out-l
-element-copy-out-l c = rank-below (c .pre .1)
+element-copy-out-l c = rank-below (c .pre .can-read)
 
 labelled-requires : tie.Need-labelled-requires
-labelled-requires c κs = let p = c .before .before .pre .1 in (omega arith, omega arith, label-some p, label-most p)
+labelled-requires c κs = let p = c .before .before .pre .can-read in (omega arith, omega arith, label-some p, label-most p)
 
 returns : tie.Need-returns
-returns c = c .labelled .ensures ∙ first-read (c .before .before .before .pre .1) (c .before .if1 .taken)
+returns c = off-first _ (c .before .if1 .taken) (c .labelled .ensures)
 
 sub-newest : tie.Need-sub-newest
 sub-newest c = search needs
 
 element-copy-out-labelled : tie.Need-element-copy-out-labelled
-element-copy-out-labelled c = omega (arith, begun (c .before .before .before) (c .before .if1 .left) .devices-most)
+element-copy-out-labelled c = omega (arith, off-most (c .before .before .before .pre))
 
 labelled-requires-2 : tie.Need-labelled-requires-2
 labelled-requires-2 c κs =
     let s = c .before .before .before .before in
-    let p = s .pre .1 in
-    (omega (arith, begun s (c .before .before .if1 .left) .devices-most), omega (arith, row-most p), label-some p, label-most p)
+    let p = s .pre .can-read in
+    (omega (arith, off-most (s .pre)), omega (arith, row-most p), label-some p, label-most p)
 
 returns-2 : tie.Need-returns-2
 returns-2 c =
     let s = c .before .before .before .before .before in
-    let b = begun s (c .before .before .before .if1 .left) in
-    c .labelled2 .ensures ∙ backward-read (s .pre .1) b (wide s) (c .before .before .if2 .taken)
+    off-backward _ (c .before .before .before .if1 .left) (s .pre .wide) (c .before .before .if2 .taken) (c .labelled2 .ensures)
 
 sub-from : tie.Need-sub-from
-sub-from c = row-most (c .before .before .before .pre .1)
+sub-from c = row-most (c .before .before .before .pre .can-read)
 
 element-copy-out-labelled-2 : tie.Need-element-copy-out-labelled-2
 element-copy-out-labelled-2 c = search needs
@@ -61,14 +50,13 @@ element-copy-out-labelled-2 c = search needs
 labelled-requires-3 : tie.Need-labelled-requires-3
 labelled-requires-3 c κs =
     let s = c .before .before .before .before in
-    let p = s .pre .1 in
-    (omega arith, omega (arith, begun s (c .before .before .if1 .left) .devices-most), label-some p, label-most p)
+    let p = s .pre .can-read in
+    (omega arith, omega (arith, off-most (s .pre)), label-some p, label-most p)
 
 returns-3 : tie.Need-returns-3
 returns-3 c =
     let s = c .before .before .before .before .before in
-    let b = begun s (c .before .before .before .if1 .left) in
-    c .labelled3 .ensures ∙ forward-read (s .pre .1) b (wide s) (c .before .before .if2 .left)
+    off-forward _ (c .before .before .before .if1 .left) (s .pre .wide) (omega (arith, c .before .before .if2 .left)) (c .labelled3 .ensures)
 
 pub next-record-spec : {M : Type 1} → statement M
 next-record-spec =

@@ -48,3 +48,5 @@ pub mod MineLaws
 pub mod WriteLaws
 pub mod Hopes
 pub mod HopeLaws
+pub mod Kinds
+pub mod KindLaws

@@ -1,6 +1,6 @@
 -- Mining a survey, kind by kind of device 0. Rests on Firsts and Growths. Assumes nothing.
 use mathlib.Core.Path.{_≡_, refl, sym, ap, _∙_, subst}
-use mathlib.Core.Bool.{Bool, true}
+use mathlib.Core.Bool.{Bool, true, false}
 use mathlib.Core.List.{List, [], _∷_, _++_, map}
 use Prim.Native.Nat.{ℕ, suc, _+_, _*_, _≤_, _<_}
 use native.Mathlib.Numerals.{add-one}
@@ -17,7 +17,7 @@ use Rattle.growth.specs.Places.{place-of}
 use Rattle.growth.specs.PlacedRecords.{alone}
 use Rattle.growth.specs.Counting.{First-of, Counting}
 use Rattle.growth.specs.ListedBy.{Chosen, Chosen-cells, place-in, records-at, chosen-places, listed-join}
-use Rattle.growth.specs.Firsts.{Firsts, firsts-none, firsts-apart, firsts-next, firsts-listed}
+use Rattle.growth.specs.Firsts.{Firsts, firsts-none, firsts-skip, firsts-apart, firsts-next, firsts-listed}
 use Rattle.growth.specs.Output.{Done}
 use Rattle.growth.specs.Walking.{Ahead-of}
 use Rattle.coding.specs.declared.reading.Reading as held
@@ -32,6 +32,8 @@ use Rattle.mining.specs.Choices.{part, Of-sets, Can-choose, Chose}
 use Rattle.mining.specs.Growings.{records-of}
 use Rattle.mining.specs.GrowingLaws.{no-records, holding-new}
 use Rattle.mining.specs.Growths.{Fit, Lists, Lists-more, Too-many, Can-walk-on, Went, candidates-in}
+use Rattle.mining.specs.Kinds.{Occurs}
+use Rattle.mining.specs.KindLaws.{no-first}
 use Rattle.mining.specs.Mines.{Can-mine, Mined, Kinds-done}
 
 -- WHAT IS COUNTED after no record
@@ -63,6 +65,25 @@ module _ {survey labels rank alphabet : List ℕ} {g : Settings} {cells seen lis
         first = firsts-none ds (g .threshold);
         listed = listed-none kinds-before kinds-order Wanted (g .limit) [];
         lists = record { count-is = refl; bytes = refl };
+      }
+
+  -- A KIND THAT DOES NOT OCCUR is passed over
+  pub mine-skips :
+      {out : List ℕ} {k : ℕ} {cells₁ seen₁ list₁ out₁ : List ℕ} {written : ℕ} {marks : List Bool} → k < 256 → Occurs survey marks
+      → getD marks k false ≡ false → Kinds-done survey g out k cells₁ seen₁ list₁ out₁ written
+      → Kinds-done survey g out (k + 1) cells₁ seen₁ list₁ out₁ written
+  mine-skips {k = k} low o none w =
+      record {
+        low = omega arith;
+        blank = w .blank;
+        list-size = w .list-size;
+        size = w .size;
+        room = w .room;
+        firsts = w .firsts;
+        codes = w .codes;
+        first = rw add-one (firsts-skip (a .set-up .one) (w .first) (no-first (a .set-up .prepared) o k none));
+        listed = w .listed;
+        lists = w .lists;
       }
 
   -- ONE KIND MORE

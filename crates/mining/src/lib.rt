@@ -13,5 +13,6 @@ mod step; // step.rt: one record of a code as a step from a branch
 mod mark; // mark.rt: the places of the records that go on from a branch
 mod cells; // cells.rt: the table of cells, one for each place, and the list of places seen
 mod ranks; // ranks.rt: the labels of a survey numbered in rising order
+mod kinds; // kinds.rt: the kinds that occur in a survey
 mod tables; // tables.rt: the tables of labels of a survey's drawings
 mod entry; // entry.rt: one entry of a catalogue written into its own bytes

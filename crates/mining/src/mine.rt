@@ -6,12 +6,11 @@ use crate::count::count_firsts;
 use crate::grow::Growth;
 use crate::grow::Settings;
 use crate::grow::walk;
+use crate::kinds::KINDS;
+use crate::kinds::kinds_of;
 use crate::mark::LABELS;
 use coding::reading::Reading;
 ghost use Rattle.mining.specs.Mines.{Can-mine, Mined};
-
-// Kinds are bytes.
-const KINDS: usize = 256;
 
 // Writes an entry for every pattern that enough drawings contain.
 pub fn mine(
@@ -31,28 +30,31 @@ pub fn mine(
 {
     let mut written = 0;
     let n = settings.labels;
+    let occurs = kinds_of(survey);
     for kind in 0..KINDS {
-        let found = count_firsts(survey, labels, rank, n, kind as u8, cells, seen);
-        let top = choose(cells, seen, found, settings.threshold, list, 0);
-        let Growth::To(count) = walk(
-            survey,
-            labels,
-            rank,
-            alphabet,
-            settings,
-            Reading::new(),
-            kind as u8,
-            cells,
-            seen,
-            list,
-            0,
-            top,
-            output,
-            written,
-        ) else {
-            return Growth::Full;
-        };
-        written = count;
+        if occurs[kind] {
+            let found = count_firsts(survey, labels, rank, n, kind as u8, cells, seen);
+            let top = choose(cells, seen, found, settings.threshold, list, 0);
+            let Growth::To(count) = walk(
+                survey,
+                labels,
+                rank,
+                alphabet,
+                settings,
+                Reading::new(),
+                kind as u8,
+                cells,
+                seen,
+                list,
+                0,
+                top,
+                output,
+                written,
+            ) else {
+                return Growth::Full;
+            };
+            written = count;
+        }
     }
     Growth::To(written)
 }

@@ -1,10 +1,12 @@
 -- `mine::mine` meets its contract. The invariant: what begins with a kind below `kind` is listed. Assumes nothing.
 use mathlib.Core.Path.{_≡_, refl, sym, ap, _∙_, subst}
+use mathlib.Core.Logic.{⊎-elim}
 use Prim.Native.Nat.{ℕ, _+_, _-_, _<_, _≤_}
 use native.Mathlib.Omega.{arith}
 use borrow.Author.Needs.{needs}
+use Rattle.mining.specs.Kinds.{Occurs}
 use Rattle.mining.specs.Mines.{Kinds-done}
-use Rattle.mining.specs.MineLaws.{mine-starts, mine-chooses, mine-walks, mine-full, mine-next, mine-ends}
+use Rattle.mining.specs.MineLaws.{mine-starts, mine-skips, mine-chooses, mine-walks, mine-full, mine-next, mine-ends}
 use Rattle.mining.proofs.mine.mine.Statement.{statement}
 use Rattle.mining.proofs.mine.mine.Tie as tie
 use Rattle.mining.proofs.mine.mine.Reads as reads
@@ -13,28 +15,35 @@ use Rattle.coding.proofs.reading.Reading.new.Reads as new-reads
 use Rattle.mining.proofs.choose.choose.Reads as choose-reads
 use Rattle.mining.proofs.count.count_firsts.Reads as count-firsts-reads
 use Rattle.mining.proofs.grow.walk.Reads as walk-reads
+use Rattle.mining.proofs.kinds.kinds_of.Reads as kinds-of-reads
 
 abbrev Inv-loop : tie.InvT-loop
-Inv-loop survey labels rank alphabet settings cells₀ seen₀ list₀ output₀ written₀ n kind₀ cells seen list output written kind =
-    Kinds-done survey settings output₀ kind cells seen list output written
+Inv-loop survey labels rank alphabet settings cells₀ seen₀ list₀ output₀ written₀ n occurs kind₀ cells seen list output written kind =
+    Occurs survey occurs × Kinds-done survey settings output₀ kind cells seen list output written
 
 abbrev μ-loop : tie.MeasureT-loop
-μ-loop survey labels rank alphabet settings cells₀ seen₀ list₀ output₀ written₀ n kind₀ cells seen list output written kind =
+μ-loop survey labels rank alphabet settings cells₀ seen₀ list₀ output₀ written₀ n occurs kind₀ cells seen list output written kind =
     256 - kind
 
+kinds-of-requires : tie.Need-kinds-of-requires Inv-loop μ-loop
+kinds-of-requires c κs = c .before .before .pre .set-up .prepared .accepted
+
 loop-holds : tie.Need-loop-holds Inv-loop μ-loop
-loop-holds c = mine-starts (c .before .before .pre) (c .before .before .args .output .now)
+loop-holds c = (c .kinds-of .ensures, mine-starts (c .before .before .before .pre) (c .before .before .before .args .output .now))
+
+array-read-if1 : tie.Need-array-read-if1 Inv-loop μ-loop
+array-read-if1 c = search needs
 
 cast-count-firsts : tie.Need-cast-count-firsts Inv-loop μ-loop
 cast-count-firsts c = search needs
 
 count-firsts-requires : tie.Need-count-firsts-requires Inv-loop μ-loop
 count-firsts-requires c κs =
-    let s = c .before .before .before .before .before .before in
-    (record { alphabet = s .args .alphabet .now; prepared = s .pre .set-up .prepared }, c .before .before .before .loop .inv .blank)
+    let s = c .before .before .before .before .before .before .before .before in
+    (record { alphabet = s .args .alphabet .now; prepared = s .pre .set-up .prepared }, c .before .before .before .before .loop .inv .1 .blank)
 
 choose-requires : tie.Need-choose-requires Inv-loop μ-loop
-choose-requires c κs = mine-chooses (c .before .before .before .before .before .before .before .before .before .before .pre) (c .before .before .before .before .before .before .before .loop .inv) (c .before .before .before .count-firsts .ensures)
+choose-requires c κs = mine-chooses (c .before .before .before .before .before .before .before .before .before .before .before .before .pre) (c .before .before .before .before .before .before .before .before .loop .inv .1) (c .before .before .before .count-firsts .ensures)
 
 new-requires : tie.Need-new-requires Inv-loop μ-loop
 new-requires c κs = search needs
@@ -44,7 +53,7 @@ cast-walk c = search needs
 
 walk-requires : tie.Need-walk-requires Inv-loop μ-loop
 walk-requires c κs =
-    mine-walks (c .before .before .before .before .before .before .before .before .before .before .before .before .before .before .before .before .pre) (c .before .before .before .before .before .before .before .before .before .before .before .before .before .loop .inv) (c .before .before .before .before .before .before .before .before .before .count-firsts .ensures) (c .before .before .before .before .before .choose .ensures) (c .before .before .before .before .new .ensures)
+    mine-walks (c .before .before .before .before .before .before .before .before .before .before .before .before .before .before .before .before .before .before .pre) (c .before .before .before .before .before .before .before .before .before .before .before .before .before .before .loop .inv .1) (c .before .before .before .before .before .before .before .before .before .count-firsts .ensures) (c .before .before .before .before .before .choose .ensures) (c .before .before .before .before .new .ensures)
 
 enum-known-count : tie.Need-enum-known-count Inv-loop μ-loop
 enum-known-count c = search needs
@@ -53,29 +62,37 @@ enum-told : tie.Need-enum-told Inv-loop μ-loop
 enum-told c = search needs
 
 same-length : tie.Need-same-length Inv-loop μ-loop
-same-length c = c .before .before .before .before .walk .ensures .size ∙ c .before .before .before .before .before .before .before .before .before .before .before .before .before .before .before .before .before .before .loop .inv .size
+same-length c = c .before .before .before .before .walk .ensures .size ∙ c .before .before .before .before .before .before .before .before .before .before .before .before .before .before .before .before .before .before .before .loop .inv .1 .size
 
 returns : tie.Need-returns Inv-loop μ-loop
 returns c =
-    mine-full (c .before .before .before .before .before .before .before .before .before .before .before .before .before .before .before .before .before .before .before .before .before .pre) (c .before .before .before .before .before .before .before .before .before .before .before .before .before .before .before .before .before .before .loop .inv) (c .before .before .before .before .before .before .before .before .before .before .before .before .before .before .count-firsts .ensures) (c .before .before .before .before .before .before .before .before .before .before .choose .ensures) (c .before .before .before .before .before .before .before .before .before .new .ensures)
+    mine-full (c .before .before .before .before .before .before .before .before .before .before .before .before .before .before .before .before .before .before .before .before .before .before .before .pre) (c .before .before .before .before .before .before .before .before .before .before .before .before .before .before .before .before .before .before .before .loop .inv .1) (c .before .before .before .before .before .before .before .before .before .before .before .before .before .before .count-firsts .ensures) (c .before .before .before .before .before .before .before .before .before .before .choose .ensures) (c .before .before .before .before .before .before .before .before .before .new .ensures)
     (rw (c .enum-told .given .1) at (c .before .before .before .before .walk .ensures))
 
 add-kind : tie.Need-add-kind Inv-loop μ-loop
-add-kind c = omega (arith, c .before .before .before .before .before .before .before .before .before .before .before .before .before .before .before .before .before .before .loop-test .taken)
+add-kind c = omega (arith, c .before .loop-test .taken)
 
 loop-less : tie.Need-loop-less Inv-loop μ-loop
-loop-less c = omega (arith, c .before .before .before .before .before .before .before .before .before .before .before .before .before .before .before .before .before .before .loop-test .taken)
+loop-less c = omega (arith, c .before .loop-test .taken)
 
 loop-again : tie.Need-loop-again Inv-loop μ-loop
 loop-again c =
-    mine-next (c .before .before .before .before .before .before .before .before .before .before .before .before .before .before .before .before .before .before .before .before .before .before .pre) (c .before .before .before .before .before .before .before .before .before .before .before .before .before .before .before .before .before .before .before .loop .inv) (c .before .before .before .before .before .before .before .before .before .before .before .before .before .before .before .count-firsts .ensures) (c .before .before .before .before .before .before .before .before .before .before .before .choose .ensures) (c .before .before .before .before .before .before .before .before .before .before .new .ensures)
-    (c .before .before .before .before .before .before .before .before .before .before .before .before .before .before .before .before .before .before .loop-test .taken) (rw (c .before .count .given .1) at (c .before .before .before .before .before .walk .ensures))
+    let s = c .before .before .before .before .before .before in
+    let l = c .before .before .loop in
+    let h = c .before .loop-test .taken in (
+      l .inv .0,
+      ⊎-elim
+          (λ w. rw (w .19, w .20, w .21, w .22, w .23)
+          (mine-next (s .pre) (l .inv .1) (w .3 .ensures) (w .7 .ensures) (w .8 .ensures) h (rw (w .17 .given .1) at (w .13 .ensures))))
+          (λ w. rw (w .1, w .2, w .3, w .4, w .5) (mine-skips (s .pre) h (l .inv .0) (w .0 .left) (l .inv .1)))
+          (c .if1 .came),
+    )
 
 same-length-2 : tie.Need-same-length-2 Inv-loop μ-loop
 same-length-2 c = search needs
 
 returns-2 : tie.Need-returns-2 Inv-loop μ-loop
-returns-2 c = mine-ends (c .before .before .before .before .pre) (omega (arith, c .loop-test .left)) (c .before .loop .inv)
+returns-2 c = mine-ends (c .before .before .before .before .before .pre) (omega (arith, c .loop-test .left)) (c .before .loop .inv .1)
 
 pub mine-spec : {M : Type 1} → statement M
 mine-spec =
@@ -83,7 +100,9 @@ mine-spec =
     (tie.spec
     Inv-loop
     μ-loop
+    kinds-of-requires
     loop-holds
+    array-read-if1
     cast-count-firsts
     count-firsts-requires
     choose-requires

@@ -58,7 +58,7 @@ stands-in a e same = go (ℕ-discrete (a .i) (e .i))
     go (no q) = rw (ne-eqb (a .i) (e .i) q)
 
 -- the record that comes next has the kind that was given to its device
-next-kind : (x : Reading) (e : Rec) → Step x e → getD (x .kinds) (e .i) 256 ≡ e .ki
+pub next-kind : (x : Reading) (e : Rec) → Step x e → getD (x .kinds) (e .i) 256 ≡ e .ki
 next-kind x e (steps-back o p q) = p
 next-kind x e (steps-forward m p q k) = k
 

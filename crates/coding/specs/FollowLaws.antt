@@ -34,7 +34,7 @@ use Rattle.coding.specs.BetterLaws.{
 
 -- A BRANCH that has followed the first k records
 module _ {t bs : List ℕ} {k : ℕ} {b : State} (F : Follows t bs k b) where
-  sees : Sees (decoded (code-records bs)) t (take k (code-records bs)) b
+  pub sees : Sees (decoded (code-records bs)) t (take k (code-records bs)) b
   sees =
       record {
         ten = code-ten bs (F .tabled .accepted);

@@ -25,3 +25,7 @@ pub mod SearchStartCalls
 pub mod SearchStarts
 pub mod SearchWays
 pub mod Searches
+pub mod Accepting
+pub mod AcceptedLaws
+pub mod AcceptedSteps
+pub mod FrontLaws

@@ -5,3 +5,4 @@ pub mod decode; // decode.rt: the drawing that a code describes
 pub mod compare; // compare.rt: which of two codes comes before the other
 pub mod least; // least.rt: whether a code is the least of what it describes
 pub mod search; // search.rt: the least code of a drawing
+pub mod accepted; // accepted.rt: whether an accepted code is the least, for a search that makes many

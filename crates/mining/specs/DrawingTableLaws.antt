@@ -1,15 +1,13 @@
--- The tables of a survey's drawings, table by table: one copied element by element, and one more put behind those that are
--- there. Rests on records of any size. Assumes nothing.
-use mathlib.Core.Path.{_≡_, refl, sym, ap, _∙_}
+-- The tables of a survey's drawings, table by table: one more put behind those that are there. Rests on records of any size. Assumes nothing.
+use mathlib.Core.Path.{_≡_, ap, _∙_}
 use mathlib.Core.List.{List, _++_}
 use Prim.Native.Nat.{ℕ, _+_, _*_, _≤_, _<_}
 use native.Mathlib.Nat.{not-suc-le-zero}
-use native.Mathlib.Numerals.{add-one}
 use native.Mathlib.Omega.{arith}
 use native.Mathlib.Decide.{ℕ-discrete}
-use lib.ListN.{length, getD, take, drop, set, length-set}
-use lib.Seq.{paste, take-all, take-suc, take-suc-set}
-use Rattle.laws.specs.Rows.{row, row-length, row-at}
+use lib.ListN.{length, take, drop}
+use lib.Seq.{paste, take-all}
+use Rattle.laws.specs.Rows.{row}
 use Rattle.graphs.specs.Drawing.{drawing-in}
 use Rattle.codes.specs.BranchState.{Labels}
 use Rattle.mining.specs.PutRecords.{put-record}
@@ -20,30 +18,6 @@ use Rattle.mining.specs.DrawingTables.{Tables-before}
 pub copied-whole : (w k : ℕ) (r xs : List ℕ) → length r ≡ w → paste xs (w * k) r w ≡ put-record w k r xs
 unfolding put-record
 copied-whole w k r xs e = ap (λ (l : List ℕ). take (w * k) xs ++ l ++ drop (w * k + w) xs) (take-all w r (omega arith))
-
--- AND COPIED OUT: the first i elements are there
-pub record Copied (w k : ℕ) (xs : List ℕ) (i : ℕ) (out : List ℕ) : Type 0 where
-  pub size : length out ≡ w
-  pub front : take i out ≡ take i (row w k xs)
-
-module _ (w k : ℕ) (xs : List ℕ) (room : w * k + w ≤ length xs) where
-  pub copied-next : (i : ℕ) (out : List ℕ) → i < w → Copied w k xs i out → Copied w k xs (i + 1) (set out i (getD xs (w * k + i) 0))
-  copied-next i out h c =
-      record {
-        size = length-set out i _ ∙ c .size;
-        front =
-            rw (
-              add-one,
-              take-suc-set out i (getD xs (w * k + i) 0) (omega (arith, c .size)),
-              take-suc (row w k xs) i 0 (omega (arith, row-length w k xs room)),
-              c .front,
-              row-at w k xs i 0 h,
-            ) refl;
-      }
-
-  pub copied-end : (i : ℕ) (out : List ℕ) → w ≤ i → Copied w k xs i out → out ≡ row w k xs
-  copied-end i out h c =
-      sym (take-all i out (omega (arith, c .size))) ∙ c .front ∙ take-all i (row w k xs) (omega (arith, row-length w k xs room))
 
 -- TABLE BY TABLE
 module _ (bs : List ℕ) where

@@ -12,7 +12,7 @@ use Rattle.laws.specs.Selections.{Sent, map-from}
 use Rattle.graphs.specs.Drawing.{Drawing}
 use Rattle.graphs.specs.Map.{contains}
 use Rattle.graphs.specs.Survey.{containing, count-true, support}
-use Rattle.codes.specs.Code.{Rec, fresh, rows-refusal, read-rows, recs-in, decoded, kinds-before, Least}
+use Rattle.codes.specs.Code.{Rec, Reading, fresh, rows-refusal, read-rows, recs-in, decoded, kinds-before, Least}
 use Rattle.codes.specs.CodeOrder.{kinds-order}
 use Rattle.growth.specs.Catalogue.{Entry, entry, entry-bytes, all-bytes}
 use Rattle.growth.specs.Catalogues.{entry-for}
@@ -25,6 +25,9 @@ use Rattle.growth.specs.ListedBy.{Chosen, place-in, records-at, chosen-places, 
 use Rattle.growth.specs.Output.{Done, Ahead, done-snoc, ahead-child}
 use Rattle.growth.specs.Walking.{Gives, passed, taken, Ahead-of, ahead-of-child}
 use Rattle.coding.specs.declared.reading.Reading as held
+use Rattle.coding.specs.Readings as readings
+use Rattle.coding.specs.Readings.{Begun, Sound}
+use Rattle.coding.specs.ReadingLaws.{devices-is}
 use Rattle.mining.specs.declared.grow.Growth.{Growth}
 use Rattle.mining.specs.declared.grow.Growth.the-variants.{To, Full}
 use Rattle.mining.specs.declared.grow.Settings.{Settings}
@@ -64,15 +67,15 @@ use Rattle.mining.specs.Growths.{
 }
 
 -- WHAT BECAME OF A CANDIDATE, by the answer
-module _ (h : held.Reading) (cell count : ℕ) (out z : List ℕ) {v : Taken} where
-  pub took-passed : v ≡ Passed → Took-up h cell count out v z → Not-least (records-of h) out z
-  took-passed e t = subst (λ (w : Taken). Took-up h cell count out w z) e t
+module _ (γ : List Rec) (cell count : ℕ) (out z : List ℕ) {v : Taken} where
+  pub took-passed : v ≡ Passed → Took-up γ cell count out v z → Not-least γ out z
+  took-passed e t = subst (λ (w : Taken). Took-up γ cell count out w z) e t
 
-  pub took-full : v ≡ answers.Full → Took-up h cell count out v z → No-room (records-of h) count out z
-  took-full e t = subst (λ (w : Taken). Took-up h cell count out w z) e t
+  pub took-full : v ≡ answers.Full → Took-up γ cell count out v z → No-room γ count out z
+  took-full e t = subst (λ (w : Taken). Took-up γ cell count out w z) e t
 
-  pub took-written : v ≡ Written → Took-up h cell count out v z → Put (records-of h) cell count out z
-  took-written e t = subst (λ (w : Taken). Took-up h cell count out w z) e t
+  pub took-written : v ≡ Written → Took-up γ cell count out v z → Put γ cell count out z
+  took-written e t = subst (λ (w : Taken). Took-up γ cell count out w z) e t
 
 -- AN ENTRY MORE behind those that are listed
 pub lists-next :
@@ -139,14 +142,34 @@ module _ {survey labels rank alphabet : List ℕ} {g : Settings} {h : held.Readi
   short = omega (arith, records-length h, a .most)
 
   -- IT MAY BE TAKEN UP
-  pub grow-takes-up : Can-take-up h cell out count
-  grow-takes-up =
+  begun : Begun h
+  begun = go (a .holding .sound)
+    where
+      go : Sound h → Begun h
+      go (readings.not-begun n) = absurd (omega (arith, n .no-record, a .some))
+      go (readings.begun b) = b
+
+  pub grow-takes-up :
+      length (h .code .records) ≡ 100 → length (h .kinds) ≡ 10 → Can-take-up (h .code .records) (h .code .count) (h .devices) cell out count
+  grow-takes-up long wide =
       record {
-        holding = a .holding;
-        accepted = a .candidate .accepted;
-        some = a .some;
+        front =
+            record {
+              size = long;
+              one = a .some;
+              most = a .holding .most;
+              accepted = a .candidate .accepted;
+              count = sym (ap (λ (x : Reading). length (x .kinds)) (sym (a .holding .is)) ∙ devices-is h wide begun);
+            };
         most = omega (arith, a .most, a .set-up .small);
-        few = omega (arith, ap (λ (k : ℕ). k / (2 ^ 32)) (a .candidate .cell-is), cell-count-is (containing (decoded γ) ds) containing-few, count-true-bound (containing (decoded γ) ds), containing-few);
+        few =
+            omega (
+              arith,
+              ap (λ (k : ℕ). k / (2 ^ 32)) (a .candidate .cell-is),
+              cell-count-is (containing (decoded γ) ds) containing-few,
+              count-true-bound (containing (decoded γ) ds),
+              containing-few,
+            );
         out-room = a .out-room;
       }
 

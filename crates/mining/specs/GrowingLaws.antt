@@ -1,26 +1,22 @@
 -- A code that grows, as the program holds it: nothing held yet, where the next record starts from, one record more, and
 -- what the least test says of the bytes held. Rests on the readings of coding and the rows of codes. Assumes nothing.
 use mathlib.Core.Path.{_≡_, sym, ap, _∙_, subst}
-use mathlib.Core.List.{List, [], _∷_, map}
-use Prim.Native.Nat.{ℕ, _*_, _-_, _/_, _%_, _≤_}
+use mathlib.Core.List.{List, [], _∷_}
+use Prim.Native.Nat.{ℕ, _*_, _-_, _≤_}
 use native.Mathlib.Nat.{sub-zero}
 use native.Mathlib.Omega.{arith}
-use lib.ListN.{length, take, drop, take-append-drop}
-use lib.Seq.{length-take-le}
-use borrow.Author.Tests.{eq-eqb, ne-eqb, le-ltb}
-use Rattle.laws.specs.Rows.{rows, rows-front}
+use lib.ListN.{length, take, drop}
+use Rattle.laws.specs.Rows.{rows}
 use Rattle.laws.specs.Tests.{true-and-false}
 use Rattle.codes.specs.Code.{
   Rec,
   Reading,
   fresh,
-  rec-in,
   recs-in,
   code-records,
   stepped,
   rows-refusal,
   read-rows,
-  code-refusal,
 }
 use Rattle.codes.specs.Rows.{First-row, rows-cons, rows-split, read-snoc}
 use Rattle.codes.specs.CodeBytes.{recs-in-length}
@@ -34,6 +30,7 @@ use Rattle.coding.specs.Readings as readings
 use Rattle.coding.specs.Readings.{as-reading, code-checked, Not-begun, Begun, Sound, Step-says, Can-take, Steps}
 use Rattle.coding.specs.ReadingLaws.{devices-some}
 use Rattle.coding.specs.CheckLaws.{accepted-checked}
+use Rattle.coding.specs.FrontLaws.{front-records, front-accepted}
 use Rattle.coding.specs.LeastSays.{Least-answer, Least-says}
 use Rattle.growth.specs.PlacedRecords.{alone}
 use Rattle.mining.specs.Growings.{records-of, Holding, basis, Can-grow, Grows}
@@ -102,52 +99,3 @@ module _ {h : held.Reading} {e : Rec} (g : Can-grow h e) where
         records = s .records;
         count = s .count;
       }
-
--- THE BYTES OF m RECORDS at the front of an array
-module _ (bs : List ℕ) (m : ℕ) (room : 5 * m ≤ length bs) where
-  pub front-length : length (take (5 * m) bs) ≡ 5 * m
-  front-length = length-take-le (5 * m) bs room
-
-  front-count : length (take (5 * m) bs) / 5 ≡ m
-  front-count = omega (arith, front-length)
-
-  pub front-records : code-records (take (5 * m) bs) ≡ recs-in m bs
-  unfolding recs-in
-  front-records =
-      ap (λ (k : ℕ). recs-in k (take (5 * m) bs)) front-count
-      ∙ ap (map rec-in)
-      (sym (rows-front 5 m (take (5 * m) bs) (drop (5 * m) bs) (omega (arith, front-length))) ∙ ap (rows 5 m) (take-append-drop (5 * m) bs))
-
-  pub front-accepted : 1 ≤ m → m ≤ 20 → rows-refusal fresh (recs-in m bs) ≡ 0 → code-refusal (take (5 * m) bs) ≡ 0
-  unfolding code-refusal
-  front-accepted one most ok =
-      let n = length (take (5 * m) bs) in
-      rw (ne-eqb n 0 (λ z. omega (arith, front-length)), le-ltb 100 n (omega (arith, front-length)), eq-eqb (n % 5) 0 (omega (arith, front-length)), front-records)
-      ok
-
--- WHAT THE LEAST TEST SAYS of the bytes of the records held
-module _ {h : held.Reading} (p : Holding h) (m : ℕ) (count : h .code .count ≡ m) (long : length (h .code .records) ≡ 100) where
-  abbrev part : List ℕ
-  part = take (5 * m) (h .code .records)
-
-  enough : 5 * m ≤ length (h .code .records)
-  enough = omega (arith, p .most)
-
-  pub code-part : code-records (take (5 * m) (h .code .records)) ≡ records-of h
-  code-part = front-records (h .code .records) m enough ∙ ap (λ (k : ℕ). recs-in k (h .code .records)) (sym count)
-
-  module _ (one : 1 ≤ m) (ok : rows-refusal fresh (records-of h) ≡ 0) where
-    pub part-accepted : code-checked (take (5 * m) (h .code .records)) ≡ Accepted
-    part-accepted =
-        accepted-checked part
-        (front-accepted (h .code .records) m enough one (omega (arith, p .most))
-        (subst (λ (k : ℕ). rows-refusal fresh (recs-in k (h .code .records)) ≡ 0) count ok))
-
-    pub least-told : (v : Verdict) → Least-says (take (5 * m) (h .code .records)) v → Least-answer Accepted (records-of h) v
-    least-told v s =
-        subst (λ (rs : List Rec). Least-answer Accepted rs v) code-part
-        (subst (λ (c : Checked). Least-answer c (code-records part) v) part-accepted s)
-
-    -- where they are lent as a part that starts at 0
-    pub least-told-from-zero : (v : Verdict) → Least-says (take (5 * m - 0) (drop 0 (h .code .records))) v → Least-answer Accepted (records-of h) v
-    least-told-from-zero v s = least-told v (subst (λ (k : ℕ). Least-says (take k (h .code .records)) v) (sub-zero (5 * m)) s)

@@ -18,6 +18,7 @@ use Rattle.growth.specs.ListedBy.{Chosen-cells, place-in, records-at}
 use Rattle.growth.specs.Output.{Done, Ahead}
 use Rattle.growth.specs.Walking.{Gives, Ahead-of}
 use Rattle.coding.specs.declared.reading.Reading as held
+use Rattle.coding.specs.Accepting.{Accepted-front}
 use Rattle.mining.specs.declared.grow.Growth.{Growth}
 use Rattle.mining.specs.declared.grow.Growth.the-variants.{To, Full}
 use Rattle.mining.specs.declared.grow.Settings.{Settings}
@@ -44,12 +45,10 @@ pub record At-hand (cells seen list : List ℕ) (base level : ℕ) : Type 0 wher
   pub list-size : length list ≡ 163840
   pub room : base ≤ 20480 * level
 
--- A CANDIDATE IS TAKEN UP: its code is accepted, and there is room for the entries before its own
-pub record Can-take-up (h : held.Reading) (cell : ℕ) (out : List ℕ) (count : ℕ) : Type 0 where
-  pub holding : Holding h
-  pub accepted : rows-refusal fresh (records-of h) ≡ 0
-  pub some : 1 ≤ h .code .count
-  pub most : h .code .count ≤ 8
+-- A CANDIDATE IS TAKEN UP: an accepted code of at most 8 records, and room for the entries before its own
+pub record Can-take-up (code : List ℕ) (m n cell : ℕ) (out : List ℕ) (count : ℕ) : Type 0 where
+  pub front : Accepted-front code m n
+  pub most : m ≤ 8
   pub few : cell / (2 ^ 32) ≤ 32
   pub out-room : 42 * count ≤ length out
 
@@ -69,10 +68,10 @@ pub record Not-least (γ : List Rec) (out out-now : List ℕ) : Type 0 where
   pub not-least : Least (decoded γ) γ → ⊥
   pub same : out-now ≡ out
 
-abbrev pub Took-up : held.Reading → (cell count : ℕ) → (out : List ℕ) → Taken → (out-now : List ℕ) → Type 0
-Took-up h cell count out Passed z = Not-least (records-of h) out z
-Took-up h cell count out taken.Full z = No-room (records-of h) count out z
-Took-up h cell count out Written z = Put (records-of h) cell count out z
+abbrev pub Took-up : (γ : List Rec) (cell count : ℕ) → (out : List ℕ) → Taken → (out-now : List ℕ) → Type 0
+Took-up γ cell count out Passed z = Not-least γ out z
+Took-up γ cell count out taken.Full z = No-room γ count out z
+Took-up γ cell count out Written z = Put γ cell count out z
 
 -- THE CODE THAT IS TO GROW describes a pattern that enough drawings contain; its cell tells which
 pub record Candidate-held (ds : List Drawing) (s : ℕ) (γ : List Rec) (cell : ℕ) : Type 0 where

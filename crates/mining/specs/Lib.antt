@@ -42,7 +42,6 @@ pub mod CountStepLaws
 pub mod FirstPlaces
 pub mod FirstPlaceLaws
 pub mod NextRecordLaws
-pub mod VerdictLaws
 pub mod Mines
 pub mod MineLaws
 pub mod WriteLaws
@@ -50,3 +49,11 @@ pub mod Hopes
 pub mod HopeLaws
 pub mod Kinds
 pub mod KindLaws
+pub mod Plans
+pub mod PlanLaws
+pub mod Follows
+pub mod SeeLaws
+pub mod FollowLaws
+pub mod FollowingLaws
+pub mod StartingLaws
+pub mod DrawingPlans

@@ -11,11 +11,10 @@ use crate::growing::grown;
 use crate::growing::next_record;
 use crate::hopeful::hopeless;
 use crate::mark::LABELS;
-use coding::answer::Verdict;
-use coding::least::is_least;
+use coding::accepted::least_accepted;
 use coding::reading::Reading;
-use records::code::Code;
 use records::entry::Entry;
+ghost use Rattle.codes.specs.Code.{recs-in};
 ghost use Rattle.mining.specs.Growths.{Can-take-up, Took-up, Can-grow-on, Grew, Can-walk-on, Went};
 ghost use Rattle.mining.specs.Growings.{records-of};
 
@@ -40,29 +39,26 @@ enum Taken {
     Written,
 }
 
-// Writes the entry of a candidate whose code is the least.
-fn take_up(held: Reading, cell: u64, output: &mut [u8], count: usize) -> Taken
-    requires { ⌜ Can-take-up held cell (now output) count ⌝ }
-    ensures { λ r. ⌜ Took-up held cell count (now (output .entry)) r (now (output .exit)) ⌝ }
+// Writes the entry of a candidate, of so many cables and devices, whose code is the least.
+fn take_up(
+    code: &[u8; 100],
+    cables: usize,
+    devices: usize,
+    cell: u64,
+    output: &mut [u8],
+    count: usize,
+) -> Taken
+    requires { ⌜ Can-take-up (now code) cables devices cell (now output) count ⌝ }
+    ensures { λ r. ⌜ Took-up (recs-in cables (now (code .entry))) cell count (now (output .entry)) r (now (output .exit)) ⌝ }
 {
-    let code = held.code;
-    let bytes = code.records;
-    let end = Code::RECORD_BYTES * code.count;
-    match is_least(&bytes[..end]) {
-        Verdict::Yes => {}
-        Verdict::No => return Taken::Passed,
-        Verdict::Refused(_) => return Taken::Passed,
+    if !least_accepted(code, cables, devices) {
+        return Taken::Passed;
     }
     if output.len() - Entry::BYTES * count < Entry::BYTES {
         return Taken::Full;
     }
-    put_entry(
-        &bytes,
-        code.count,
-        (cell / ONE_MORE) as usize,
-        count,
-        output,
-    );
+    let support = (cell / ONE_MORE) as usize;
+    put_entry(code, cables, support, count, output);
     Taken::Written
 }
 
@@ -87,17 +83,17 @@ pub fn grow(
     ensures { λ r. ⌜ Grew (now (survey .entry)) settings (records-of held) (now (cells .exit)) (now (seen .exit))
         (now (list .entry)) base (now (list .exit)) (now (output .entry)) count r (now (output .exit)) ⌝ }
 {
-    match take_up(held, cell, output, count) {
+    let code = held.code;
+    let bytes = code.records;
+    let cables = code.count;
+    match take_up(&bytes, cables, held.devices, cell, output, count) {
         Taken::Passed => return Growth::To(count),
         Taken::Full => return Growth::Full,
         Taken::Written => {}
     }
-    let code = held.code;
-    let cables = code.count;
     if cables == settings.limit {
         return Growth::To(count + 1);
     }
-    let bytes = code.records;
     let n = settings.labels;
     let found = count_extensions(survey, labels, rank, n, &bytes, cables, cell, cells, seen);
     let top = choose(cells, seen, found, settings.threshold, list, base);

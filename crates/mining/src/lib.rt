@@ -9,7 +9,7 @@ mod hopeful; // hopeful.rt: codes that cannot be least, told by their last recor
 mod choose; // choose.rt: the candidates taken out of the cells, rising
 mod count; // count.rt: the cells counted over all drawings
 mod visit; // visit.rt: the walk over all numberings of a code in a drawing
-mod step; // step.rt: one record of a code as a step from a branch
+mod plan; // plan.rt: what stays the same during a walk, in one array
 mod mark; // mark.rt: the places of the records that go on from a branch
 mod cells; // cells.rt: the table of cells, one for each place, and the list of places seen
 mod ranks; // ranks.rt: the labels of a survey numbered in rising order

@@ -38,19 +38,6 @@ pub fn fill_labels(survey: &[u8], labels: &mut [u32; 3200])
     }
 }
 
-// The table of drawing d.
-pub fn table_of(labels: &[u32; 3200], d: usize) -> [u32; 100]
-    requires { ⌜ (d < 32) × (length (now labels) ≡ 3200) ⌝ }
-    ensures { λ r. ⌜ r ≡ row 100 d (now (labels .entry)) ⌝ }
-{
-    let at = TABLE * d;
-    let mut table = [0; TABLE];
-    for i in 0..TABLE {
-        table[i] = labels[at + i];
-    }
-    table
-}
-
 // The label of the cable from device u to device v of drawing d, with no copy of its table.
 pub fn label_in(labels: &[u32; 3200], d: usize, u: usize, v: usize) -> u32
     requires { ⌜ (d < 32) × (u < 10) × (v < 10) ⌝ }

@@ -117,3 +117,21 @@ fn surveys_that_are_refused() {
         Some((2, 2))
     );
 }
+
+/// The example that ships: the stored text is that of the other implementation's catalogue.
+#[test]
+fn the_catalogue_of_the_cranes() {
+    let survey = include_bytes!("../../../examples/cranes.survey");
+    let drawings = catalogue::read(survey, 2, 4).ok().expect("accepted");
+    let entries = Codes::default().catalogue(&drawings, 2, 4);
+    let mut text = String::new();
+    for entry in &entries {
+        text += &entry.support.to_string();
+        for r in &entry.code {
+            text += &format!(" {}-{}:{}.{}.{}", r.i, r.j, r.ki, r.c, r.kj);
+        }
+        text.push('\n');
+    }
+    text += &format!("{} patterns\n", entries.len());
+    assert_eq!(text, include_str!("../../../examples/cranes.catalogue"));
+}

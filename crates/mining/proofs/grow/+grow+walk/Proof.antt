@@ -74,8 +74,16 @@ walk-claims t = (
   grow.Post,
 )
 
+long : (t : ℕ) (c : grow-lts.Start (grow-claims t) (grow-at t) grow.Post) → length (c .args .held .code .records) ≡ 100
+long t c = search needs
+
+ten : (t : ℕ) (c : grow-lts.Start (grow-claims t) (grow-at t) grow.Post) → length (c .args .held .kinds) ≡ 10
+ten t c = search needs
+
 grow-take-up-requires : (t : ℕ) → grow-lts.Need-take-up-requires (grow-claims t) (grow-at t) grow.Post
-grow-take-up-requires t c κs = grow-takes-up (c .before .before .before .pre .1)
+grow-take-up-requires t c κs =
+    let s = c .before .before .before .before .before .before in
+    grow-takes-up (s .pre .1) (long t s) (ten t s)
 
 grow-enum-told : (t : ℕ) → grow-lts.Need-enum-told (grow-claims t) (grow-at t) grow.Post
 grow-enum-told t c = search needs
@@ -85,8 +93,8 @@ grow-same-length t c = search needs
 
 grow-returns : (t : ℕ) → grow-lts.Need-returns (grow-claims t) (grow-at t) grow.Post
 grow-returns t c =
-    let s = c .before .before .before .before .before .before .before .before in
-    let p = took-passed (s .args .held) (s .args .cell) (s .args .count) (s .args .output .now) (c .before .before .before .before .take-up .last .1 .1 .0) (c .enum-told .given .1) (c .before .before .before .before .take-up .ensures) in
+    let s = c .before .before .before .before .before .before .before .before .before .before .before in
+    let p = took-passed (records-of (s .args .held)) (s .args .cell) (s .args .count) (s .args .output .now) (c .before .before .before .before .take-up .last .1 .1 .1 .1 .0) (c .enum-told .given .1) (c .before .before .before .before .take-up .ensures) in
     grow-passed (s .pre .1) (p .not-least) _ (p .same)
 
 grow-enum-told-2 : (t : ℕ) → grow-lts.Need-enum-told-2 (grow-claims t) (grow-at t) grow.Post
@@ -97,8 +105,8 @@ grow-same-length-2 t c = search needs
 
 grow-returns-2 : (t : ℕ) → grow-lts.Need-returns-2 (grow-claims t) (grow-at t) grow.Post
 grow-returns-2 t c =
-    let s = c .before .before .before .before .before .before .before .before in
-    let p = took-full (s .args .held) (s .args .cell) (s .args .count) (s .args .output .now) (c .before .before .before .before .take-up .last .1 .1 .0) (c .enum-told2 .given .1) (c .before .before .before .before .take-up .ensures) in
+    let s = c .before .before .before .before .before .before .before .before .before .before .before in
+    let p = took-full (records-of (s .args .held)) (s .args .cell) (s .args .count) (s .args .output .now) (c .before .before .before .before .take-up .last .1 .1 .1 .1 .0) (c .enum-told2 .given .1) (c .before .before .before .before .take-up .ensures) in
     grow-full (s .pre .1) (p .least) (p .short) _ (p .same)
 
 grow-enum-told-3 : (t : ℕ) → grow-lts.Need-enum-told-3 (grow-claims t) (grow-at t) grow.Post
@@ -107,50 +115,46 @@ grow-enum-told-3 t c = search needs
 -- its entry is written
 written :
     (t : ℕ) (c : grow-lts.After-enum-told3 (grow-claims t) (grow-at t) grow.Post)
-    → let s = c .before .before .before .before .before .before .before .before in
-    Put (records-of (s .args .held)) (s .args .cell) (s .args .count) (s .args .output .now) (c .before .before .before .before .take-up .last .1 .1 .0)
+    → let s = c .before .before .before .before .before .before .before .before .before .before .before in
+    Put (records-of (s .args .held)) (s .args .cell) (s .args .count) (s .args .output .now) (c .before .before .before .before .take-up .last .1 .1 .1 .1 .0)
 written t c =
-    let s = c .before .before .before .before .before .before .before .before in
-    took-written (s .args .held) (s .args .cell) (s .args .count) (s .args .output .now) (c .before .before .before .before .take-up .last .1 .1 .0) (c .enum-told3 .given .1) (c .before .before .before .before .take-up .ensures)
+    let s = c .before .before .before .before .before .before .before .before .before .before .before in
+    took-written (records-of (s .args .held)) (s .args .cell) (s .args .count) (s .args .output .now) (c .before .before .before .before .take-up .last .1 .1 .1 .1 .0) (c .enum-told3 .given .1) (c .before .before .before .before .take-up .ensures)
 
-grow-add-t24 : (t : ℕ) → grow-lts.Need-add-t24 (grow-claims t) (grow-at t) grow.Post
-grow-add-t24 t c = omega (arith, written t (c .before .before .before) .low)
+grow-add-t25 : (t : ℕ) → grow-lts.Need-add-t25 (grow-claims t) (grow-at t) grow.Post
+grow-add-t25 t c = omega (arith, written t (c .before .before) .low)
 
 grow-same-length-3 : (t : ℕ) → grow-lts.Need-same-length-3 (grow-claims t) (grow-at t) grow.Post
 grow-same-length-3 t c = search needs
 
 grow-returns-3 : (t : ℕ) → grow-lts.Need-returns-3 (grow-claims t) (grow-at t) grow.Post
-grow-returns-3 t c =
-    let s = c .before .before .before .before .before .before .before .before .before .before .before in
-    grow-leaf (s .pre .1) (written t (c .before .before .before)) (c .if1 .taken)
+grow-returns-3 t c = grow-leaf (c .before .before .before .before .before .before .before .before .before .before .before .before .before .pre .1) (written t (c .before .before)) (c .if1 .taken)
 
 grow-count-extensions-requires : (t : ℕ) → grow-lts.Need-count-extensions-requires (grow-claims t) (grow-at t) grow.Post
 grow-count-extensions-requires t c κs =
-    let s = c .before .before .before .before .before .before .before .before .before .before .before .before .before .before .before in (
+    let s = c .before .before .before .before .before .before .before .before .before .before .before .before .before .before .before .before in (
       record { alphabet = s .args .alphabet .now; prepared = s .pre .1 .set-up .prepared },
-      grow-counts (s .pre .1) (written t (c .before .before .before .before .before .before .before)) (c .before .before .before .before .if1 .left),
+      grow-counts (s .pre .1) (written t (c .before .before .before .before .before)) (c .before .before .before .if1 .left),
       s .pre .1 .at-hand .blank,
     )
 
 grow-choose-requires : (t : ℕ) → grow-lts.Need-choose-requires (grow-claims t) (grow-at t) grow.Post
 grow-choose-requires t c κs =
-    let s = c .before .before .before .before .before .before .before .before .before .before .before .before .before .before .before .before .before .before .before in
-    grow-chooses (s .pre .1) (written t (c .before .before .before .before .before .before .before .before .before .before .before)) (c .before .before .before .before .before .before .before .before .if1 .left) (c .before .before .before .count-extensions .ensures)
+    grow-chooses (c .before .before .before .before .before .before .before .before .before .before .before .before .before .before .before .before .before .before .before .before .pre .1) (written t (c .before .before .before .before .before .before .before .before .before)) (c .before .before .before .before .before .before .before .if1 .left) (c .before .before .before .count-extensions .ensures)
 
 grow-add-walk : (t : ℕ) → grow-lts.Need-add-walk (grow-claims t) (grow-at t) grow.Post
-grow-add-walk t c = omega (arith, written t (c .before .before .before .before .before .before .before .before .before .before .before .before .before .before .before .before) .low)
+grow-add-walk t c = omega (arith, written t (c .before .before .before .before .before .before .before .before .before .before .before .before .before .before) .low)
 
 grow-walk-requires : (t : ℕ) → grow-lts.Need-walk-requires (grow-claims t) (grow-at t) grow.Post
 grow-walk-requires t c κs =
-    let s = c .before .before .before .before .before .before .before .before .before .before .before .before .before .before .before .before .before .before .before .before .before .before .before .before in (
-      omega (arith, s .pre .0, s .pre .1 .most, c .before .before .before .before .before .before .before .before .before .before .before .before .before .if1 .left),
-      grow-walks (s .pre .1) (written t (c .before .before .before .before .before .before .before .before .before .before .before .before .before .before .before .before)) (c .before .before .before .before .before .before .before .before .before .before .before .before .before .if1 .left) (c .before .before .before .before .before .before .before .before .count-extensions .ensures) (c .before .before .before .before .choose .ensures),
+    let s = c .before .before .before .before .before .before .before .before .before .before .before .before .before .before .before .before .before .before .before .before .before .before .before .before .before in (
+      omega (arith, s .pre .0, s .pre .1 .most, c .before .before .before .before .before .before .before .before .before .before .before .before .if1 .left),
+      grow-walks (s .pre .1) (written t (c .before .before .before .before .before .before .before .before .before .before .before .before .before .before)) (c .before .before .before .before .before .before .before .before .before .before .before .before .if1 .left) (c .before .before .before .before .before .before .before .before .count-extensions .ensures) (c .before .before .before .before .choose .ensures),
     )
 
 grow-returns-4 : (t : ℕ) → grow-lts.Need-returns-4 (grow-claims t) (grow-at t) grow.Post
 grow-returns-4 t c =
-    let s = c .before .before .before .before .before .before .before .before .before .before .before .before .before .before .before .before .before .before .before .before .before .before .before .before .before .before .before in
-    grow-went (s .pre .1) (written t (c .before .before .before .before .before .before .before .before .before .before .before .before .before .before .before .before .before .before .before)) (c .before .before .before .before .before .before .before .before .before .before .before .before .before .before .before .before .if1 .left) (c .before .before .before .before .before .before .before .before .before .before .before .count-extensions .ensures) (c .before .before .before .before .before .before .before .choose .ensures)
+    grow-went (c .before .before .before .before .before .before .before .before .before .before .before .before .before .before .before .before .before .before .before .before .before .before .before .before .before .before .before .before .pre .1) (written t (c .before .before .before .before .before .before .before .before .before .before .before .before .before .before .before .before .before)) (c .before .before .before .before .before .before .before .before .before .before .before .before .before .before .before .if1 .left) (c .before .before .before .before .before .before .before .before .before .before .before .count-extensions .ensures) (c .before .before .before .before .before .before .before .choose .ensures)
     (c .before .before .walk .ensures)
 
 grow-same-length-4 : (t : ℕ) → grow-lts.Need-same-length-4 (grow-claims t) (grow-at t) grow.Post
@@ -276,7 +280,7 @@ pub +grow+walk-spec : {M : Type 1} → statement M
     (grow-same-length-2 t)
     (grow-returns-2 t)
     (grow-enum-told-3 t)
-    (grow-add-t24 t)
+    (grow-add-t25 t)
     (grow-same-length-3 t)
     (grow-returns-3 t)
     (grow-count-extensions-requires t)

@@ -1,0 +1,140 @@
+// Times of coding, the least test, decoding, sameness and matching. Every answer is looked at: a wrong one ends the run.
+#include "clock.hpp"
+#include "holvreiz.h"
+#include "surveys.hpp"
+#include <cstdio>
+#include <cstdlib>
+
+using bench::Bytes;
+
+struct Shape { int devices, cables, device_kinds, cable_kinds; };
+
+constexpr Shape SHAPES[] = {{10, 20, 1, 1}, {10, 20, 3, 2}, {10, 12, 1, 1}, {10, 9, 1, 1}, {10, 9, 4, 3}, {7, 8, 1, 1}, {7, 8, 3, 2}};
+constexpr int DRAWINGS = 60, PAIRS = 1200;
+
+static void expect(bool right, const char *what) {
+    if (right) return;
+    printf("WRONG: %s\n", what);
+    exit(1);
+}
+
+struct Times {
+    double sum = 0, worst = 0;
+    int count = 0;
+
+    void add(double seconds) {
+        sum += seconds;
+        worst = std::max(worst, seconds);
+        count++;
+    }
+    double mean() const { return 1e6 * sum / count; }
+    double most() const { return 1e6 * worst; }
+};
+
+static Bytes code_of(const Bytes &drawing) {
+    Bytes code(HOLVREIZ_CODE_BYTES);
+    uint64_t returned = holvreiz_code(drawing.data(), drawing.size(), code.data(), code.size());
+    expect(holvreiz_refusal(returned) == 0, "a drawing is refused");
+    code.resize(holvreiz_count(returned));
+    return code;
+}
+
+static double time_coding(const Bytes &drawing) {
+    Bytes out(HOLVREIZ_CODE_BYTES);
+    return bench::least_of_short([&] { holvreiz_code(drawing.data(), drawing.size(), out.data(), out.size()); });
+}
+
+static double time_least(const Bytes &code) {
+    uint64_t returned = 0;
+    double time = bench::least_of_short([&] { returned = holvreiz_is_least(code.data(), code.size()); });
+    expect(returned == 1, "a least code is not called least");
+    return time;
+}
+
+static double time_decoding(const Bytes &code) {
+    Bytes out(HOLVREIZ_DRAWING_BYTES);
+    double time = bench::least_of_short([&] { holvreiz_decode(code.data(), code.size(), out.data(), out.size()); });
+    expect(code_of(out) == code, "a least code is not that of what it decodes to");
+    return time;
+}
+
+static double time_same(const Bytes &first, const Bytes &second) {
+    uint64_t returned = 0;
+    double time = bench::least_of_short([&] { returned = holvreiz_same(first.data(), first.size(), second.data(), second.size()); });
+    expect(returned == 1, "two drawings of one pattern are not called the same");
+    return time;
+}
+
+static double time_matching(const Bytes &pattern, const Bytes &drawing, bool contained) {
+    Bytes map(HOLVREIZ_MAP_BYTES);
+    uint64_t returned = 0;
+    double time = bench::least_of_short([&] {
+        returned = holvreiz_match(pattern.data(), pattern.size(), drawing.data(), drawing.size(), map.data(), map.size());
+    });
+    expect(!contained || returned == pattern[0], "a part of a drawing is not found in it");
+    return time;
+}
+
+// Half of the pairs are a part of a drawing and the drawing, so that a map exists; half a part of one drawing and another drawing.
+static Times match_times(bench::Random &random, const std::vector<Bytes> &drawings) {
+    Times times;
+    for (int k = 0; k < PAIRS; k++) {
+        const Bytes &from = drawings[k % DRAWINGS];
+        const Bytes &other = drawings[random() % DRAWINGS];
+        int cables = 1 + random() % from[1];
+        Bytes pattern = bench::renumbered(random, bench::part(random, from, cables));
+        times.add(time_matching(pattern, k % 2 ? other : from, k % 2 == 0));
+    }
+    return times;
+}
+
+static void row(const Shape &s) {
+    bench::Random random(7);
+    std::vector<Bytes> drawings;
+    Times coding, least, decoding, same;
+    for (int k = 0; k < DRAWINGS; k++) drawings.push_back(bench::drawing(random, s.devices, s.cables, s.device_kinds, s.cable_kinds));
+    for (const Bytes &drawing : drawings) {
+        Bytes code = code_of(drawing);
+        coding.add(time_coding(drawing));
+        least.add(time_least(code));
+        decoding.add(time_decoding(code));
+        same.add(time_same(drawing, bench::renumbered(random, drawing)));
+    }
+    Times matching = match_times(random, drawings);
+    printf("| %d, %d | %d, %d | %.1f, %.1f ", s.devices, s.cables, s.device_kinds, s.cable_kinds, coding.mean(), coding.most());
+    printf("| %.1f, %.1f | %.2f, %.2f ", least.mean(), least.most(), decoding.mean(), decoding.most());
+    printf("| %.1f, %.1f | %.1f, %.1f |\n", same.mean(), same.most(), matching.mean(), matching.most());
+    fflush(stdout);
+}
+
+static Bytes star(int leaves) {
+    std::vector<bench::Cable> cables;
+    for (int v = 1; v <= leaves; v++) cables.push_back({0, v, 0});
+    return bench::drawing_of(std::vector<int>(leaves + 1), cables);
+}
+
+static Bytes petersen() {
+    std::vector<bench::Cable> cables;
+    for (int v = 0; v < 5; v++) {
+        cables.push_back({v, (v + 1) % 5, 0});
+        cables.push_back({v, v + 5, 0});
+        cables.push_back({v + 5, (v + 2) % 5 + 5, 0});
+    }
+    return bench::drawing_of(std::vector<int>(10), cables);
+}
+
+static void symmetric(const char *name, const Bytes &drawing) {
+    bench::Random random(7);
+    double coding = time_coding(drawing), least = time_least(code_of(drawing));
+    double same = time_same(drawing, bench::renumbered(random, drawing));
+    printf("| %s | %.1f | %.1f | %.1f |\n", name, 1e6 * coding, 1e6 * least, 1e6 * same);
+}
+
+int main() {
+    printf("| devices, cables | kinds, cable kinds | code | is_least | decode | same | match |\n|---|---|---|---|---|---|---|\n");
+    for (const Shape &shape : SHAPES) row(shape);
+    printf("\n| drawing of one kind | code | is_least | same |\n|---|---|---|---|\n");
+    symmetric("star of 6 leaves", star(6));
+    symmetric("star of 9 leaves", star(9));
+    symmetric("Petersen graph", petersen());
+}

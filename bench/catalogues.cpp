@@ -1,0 +1,62 @@
+// The catalogue of the library beside that of the baseline: same surveys, same run, entries compared byte for byte.
+#include "baseline.hpp"
+#include "clock.hpp"
+#include "holvreiz.h"
+#include "surveys.hpp"
+#include <cstdio>
+#include <cstring>
+
+using bench::Bytes;
+
+struct Setting { uint32_t threshold, limit; };
+
+constexpr Setting SETTINGS[] = {{2, 4}, {1, 4}, {1, 6}, {2, 6}, {2, 8}};
+constexpr int KINDS[] = {1, 2, 4, 10};
+constexpr unsigned SEEDS[] = {7, 8, 9};
+constexpr uint8_t LENT = 165;
+
+struct Measured {
+    size_t entries = 0;
+    double baseline = 0, library = 0;
+    bool agree = false;
+};
+
+// The lent output is one entry longer than the answer: what the call leaves there is compared too.
+static Measured measure(int kinds, Setting setting, unsigned seed) {
+    Measured m;
+    Bytes survey = bench::survey(kinds, seed), expected;
+    m.baseline = bench::least([&] { expected = baseline_catalogue(survey, setting.threshold, setting.limit); });
+    m.entries = expected.size() / HOLVREIZ_ENTRY_BYTES;
+    expected.resize(expected.size() + HOLVREIZ_ENTRY_BYTES, LENT);
+    Bytes output(expected.size(), LENT);
+    uint64_t returned = 0;
+    m.library = bench::least([&] {
+        returned = holvreiz_catalogue(survey.data(), survey.size(), setting.threshold, setting.limit, output.data(), output.size());
+    });
+    m.agree = holvreiz_refusal(returned) == 0 && holvreiz_count(returned) == m.entries && output == expected;
+    return m;
+}
+
+int main() {
+    double worst = 0;
+    int differ = 0;
+    printf("| kinds | s, L | entries | baseline ms | library ms | library / baseline |\n|---|---|---|---|---|---|\n");
+    for (int kinds : KINDS)
+        for (Setting setting : SETTINGS) {
+            Measured m[3];
+            for (int i = 0; i < 3; i++) {
+                m[i] = measure(kinds, setting, SEEDS[i]);
+                worst = std::max(worst, m[i].library / m[i].baseline);
+                differ += !m[i].agree;
+            }
+            printf("| %d | %u, %u | %zu, %zu, %zu ", kinds, setting.threshold, setting.limit, m[0].entries, m[1].entries, m[2].entries);
+            printf("| %.2f, %.2f, %.2f ", 1e3 * m[0].baseline, 1e3 * m[1].baseline, 1e3 * m[2].baseline);
+            printf("| %.2f, %.2f, %.2f ", 1e3 * m[0].library, 1e3 * m[1].library, 1e3 * m[2].library);
+            printf("| %.2f, %.2f, %.2f |\n", m[0].library / m[0].baseline, m[1].library / m[1].baseline, m[2].library / m[2].baseline);
+            fflush(stdout);
+        }
+    printf("\nWorst ratio %.2f. ", worst);
+    if (differ) printf("DIFFERENT ENTRIES in %d of 60 catalogues.\n", differ);
+    else printf("All 60 catalogues agree byte for byte.\n");
+    return differ != 0;
+}

@@ -1,0 +1,47 @@
+-- `vectors::brute::named` is safe and ends: the measure is what is left of the range.
+-- Nothing has to hold from turn to turn. Assumes nothing.
+use borrow.Author.Needs.{needs}
+use Prim.Native.Nat.{_-_}
+use Rattle.vectors.proofs.brute.named.Statement.{statement}
+use Rattle.vectors.proofs.brute.named.Tie as tie
+
+abbrev Inv-loop : tie.InvT-loop
+Inv-loop row count device i₀ i = Unit {0}
+
+abbrev μ-loop : tie.MeasureT-loop
+μ-loop row count device i₀ i = count - i
+
+loop-holds : tie.Need-loop-holds Inv-loop μ-loop
+loop-holds c = tt
+
+number-requires : tie.Need-number-requires Inv-loop μ-loop
+number-requires c κs = tt
+
+returns : tie.Need-returns Inv-loop μ-loop
+returns c = tt
+
+add-i : tie.Need-add-i Inv-loop μ-loop
+add-i c = search needs
+
+loop-less : tie.Need-loop-less Inv-loop μ-loop
+loop-less c = search needs
+
+loop-again : tie.Need-loop-again Inv-loop μ-loop
+loop-again c = tt
+
+returns-2 : tie.Need-returns-2 Inv-loop μ-loop
+returns-2 c = tt
+
+pub named-spec : {M : Type 1} → statement M
+named-spec =
+    tie.close
+    (tie.spec
+    Inv-loop
+    μ-loop
+    loop-holds
+    number-requires
+    returns
+    add-i
+    loop-less
+    loop-again
+    returns-2)

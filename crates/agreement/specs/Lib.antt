@@ -3,3 +3,4 @@ pub mod Sameness
 pub mod ThirdDemand
 pub mod ReadEntries
 pub mod Catalogues
+pub mod Determined

@@ -4,19 +4,19 @@ use mathlib.Core.Path.{_≡_, refl, sym, ap, subst, _∙_}
 use mathlib.Core.Bool.{Bool, true, false}
 use mathlib.Core.List.{List}
 use mathlib.Core.Option.{Option}
-use mathlib.Core.Logic.{_⊎_, inl, inr}
+use mathlib.Core.Logic.{inl, inr}
 use Prim.Native.Nat.{ℕ, zero, suc, _*_}
 use native.Mathlib.Omega.{arith}
 use lib.Dec.{ltb}
 use lib.ListN.{length}
 use Rattle.graphs.specs.Drawing.{Drawing, drawing-in, drawing-refusal}
-use Rattle.graphs.specs.Map.{Same, least-map}
+use Rattle.graphs.specs.Map.{least-map}
 use Rattle.graphs.specs.Survey as surveys
 use Rattle.graphs.specs.Survey.{survey, survey-refusal}
-use Rattle.codes.specs.Code.{Rec, code-records, rec-bytes, decoded, Least, kinds-before}
+use Rattle.codes.specs.Code.{Rec, code-records, kinds-before}
 use Rattle.codes.specs.CodeOrder.{kinds-order}
 use Rattle.codes.specs.FullCode.{least-unique}
-use Rattle.growth.specs.Catalogue.{Entry, Catalogue, all-bytes}
+use Rattle.growth.specs.Catalogue.{Entry}
 use Rattle.growth.specs.Catalogues.{catalogue-unique}
 use Rattle.records.specs.declared.refusal.Checked.{Checked}
 use Rattle.records.specs.declared.refusal.Checked.the-variants as checked
@@ -24,7 +24,7 @@ use Rattle.records.specs.RefusalLaws.{first-of}
 use Rattle.coding.specs.declared.answer.Written.{Written}
 use Rattle.coding.specs.declared.answer.Verdict.{Verdict}
 use Rattle.coding.specs.declared.answer.Compared.{Compared}
-use Rattle.coding.specs.Answers.{written-numbers, in-front}
+use Rattle.coding.specs.Answers.{written-numbers}
 use Rattle.coding.specs.Readings.{code-checked}
 use Rattle.coding.specs.CodeDrawing.{coding-refusal, Code-as, Code-says}
 use Rattle.coding.specs.Decoding.{Decode-says}

@@ -150,13 +150,13 @@ module _ {t bs : List ℕ} {m n k : ℕ} {b : State} (G : Goes-on t bs m n k b) 
   v = sees (G .follows)
 
   pub goes-marked : Marked (b .used) n
-  goes-marked = record { low = omega (arith, G .counted .devices-is, v .ten); size = G .follows .branch .used-size }
+  goes-marked = record { low = G .counted .most; size = G .follows .branch .used-size }
 
   -- a device at the end of a cable is one of the drawing's
   labelled-low : (u w : ℕ) → u < 10 → w < 10 → 0 < label-at t u w → w < n
   labelled-low u w p q h =
       let c = label-cable (decoded (code-records bs)) (v .ends) t (v .labels) u w (label-at t u w) p q refl h in
-      omega (arith, v .ends w u (c .0) (has-flip (c .1 .has)), G .counted .devices-is)
+      omega (arith, v .ends w u (c .0) (has-flip (c .1 .has)), G .counted .within)
 
   module _ (more : k < m) where
     below : k < length bs / 5

@@ -96,11 +96,12 @@ Before-edge t numbers used path count low n q =
 abbrev pub wanted-label : (bs : List ℕ) (k : ℕ) → ℕ
 wanted-label bs k = label-of (rec-in (row 5 k bs) .c) (rec-in (row 5 k bs) .kj)
 
--- A CODE of m records and n devices with its table
+-- A CODE of m records and at most n devices with its table
 pub record Counted (t bs : List ℕ) (m n : ℕ) : Type 0 where
   pub tabled : Tabled t bs
   pub records : m ≡ length bs / 5
-  pub devices-is : n ≡ devices (decoded (code-records bs))
+  pub within : devices (decoded (code-records bs)) ≤ n
+  pub most : n ≤ 10
 
 -- a branch that has followed its first k records
 pub record Goes-on (t bs : List ℕ) (m n k : ℕ) (b : State) : Type 0 where

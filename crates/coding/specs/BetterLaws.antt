@@ -1,7 +1,6 @@
--- What an extension tells of the records below a branch: something better is seen, or nothing, or every way has to be
--- followed. Rests on Better and the laws of branches. Assumes nothing.
+-- What an extension that is the code's next record tells of the records below a branch: every way has to be followed. Rests on Better and the laws of branches. Assumes nothing.
 use mathlib.Core.Path.{_≡_, refl, sym, ap, _∙_, subst}
-use mathlib.Core.Bool.{true, false}
+use mathlib.Core.Bool.{false}
 use mathlib.Core.List.{List, _∷_, _++_}
 use mathlib.Core.Logic.{_⊎_, inl, inr}
 use Prim.Native.Nat.{ℕ, _-_, _≤_, _<_}
@@ -15,7 +14,7 @@ use Rattle.graphs.specs.Drawing.{Drawing, devices}
 use Rattle.graphs.specs.Cables.{Has}
 use Rattle.graphs.specs.Embedding.{Ends-in-range}
 use Rattle.codes.specs.Code.{Rec, Reading, fresh, forward, kinds-before, rec-before-by, rec-before, rec-same, rows-refusal, read-rows}
-use Rattle.codes.specs.CodeOrder.{rec-eq, rec-before-strict, kinds-order}
+use Rattle.codes.specs.CodeOrder.{rec-eq}
 use Rattle.codes.specs.Step.{Step, steps-back, steps-forward}
 use Rattle.codes.specs.Rows.{step-from-test, rows-cons, rows-split}
 use Rattle.codes.specs.Extension.{Local, next}
@@ -36,13 +35,13 @@ use Rattle.codes.specs.BranchState.{
 use Rattle.codes.specs.BranchBounds.{Bounds, represents-bounds, device-low}
 use Rattle.codes.specs.LabelLaws.{end-byte}
 use Rattle.codes.specs.BranchLaws.{chord-found-local, chord-next, edge-local, edge-room}
-use Rattle.codes.specs.BranchLeast.{chord-found-least, edge-found-least, nothing-found, edge-ties}
+use Rattle.codes.specs.BranchLeast.{chord-found-least, edge-found-least, edge-ties}
 use Rattle.codes.specs.BranchSteps.{represents-chord, represents-edge, numbering-with-edge}
 use Rattle.branches.specs.declared.extension.Extension.{Extension}
 use Rattle.branches.specs.declared.extension.Extension.the-variants.{Chord, Edge, None}
-use Rattle.branches.specs.declared.«record».Order.the-variants.{Before, Equal, After}
+use Rattle.branches.specs.declared.«record».Order.the-variants.{Equal}
 use Rattle.branches.specs.Records.{order-of}
-use Rattle.branches.specs.RecordLaws.{order-before, order-equal, order-after}
+use Rattle.branches.specs.RecordLaws.{order-equal}
 use Rattle.branches.specs.Extensions.{Extension-found}
 use Rattle.branches.specs.Ways.{Ties, Way, Can-find, Can-follow, followed}
 use Rattle.coding.specs.Betters.{step-order, Can-compare}
@@ -130,16 +129,6 @@ module _ {d : Drawing} {t : List ℕ} {γ : List Rec} {b : State} (v : Sees d t 
 
   -- THE RECORD a is the least that is seen
   module _ (a : Rec) (least : (l : Rec) → Local d x f l → rec-before l a ≡ false) (e : Rec) (ss : List Rec) where
-    seen-before : Local d x f a → rec-before a e ≡ true → Better kinds-before d γ (e ∷ ss) f
-    unfolding Better
-    seen-before h p = inl (record { l = a; local = h; earlier = p })
-
-    seen-after : rec-before e a ≡ true → Better kinds-before d γ (e ∷ ss) f → ⊥
-    unfolding Better
-    seen-after p (inl s) =
-        true-and-false (rec-before-strict kinds-before kinds-order .trans (s .l) e a (s .earlier) p) (least (s .l) (s .local))
-    seen-after p (inr m) = true-and-false p (least e (m .0))
-
     seen-equal : a ≡ e → Better kinds-before d γ (e ∷ ss) f
         → (h : Local d x f e) × Better kinds-before d (snoc γ e) ss (next h)
     unfolding Better
@@ -160,29 +149,6 @@ module _ {d : Drawing} {t : List ℕ} {γ : List Rec} {b : State} (v : Sees d t 
     edge-stands : (q l : ℕ) → step-order b (Edge q l) e ≡ order-of (edge q l) e
     edge-stands q l =
         stands-in (edge q l) e (λ i. ap (λ (n : ℕ). getD (x .kinds) n 256) i ∙ kind-is)
-
-    -- BEFORE e: something better is seen
-    pub step-before : (s : Extension) → Extension-found t b s → step-order b s e ≡ Before → Better kinds-before d γ (e ∷ ss) f
-    step-before (Chord q l) c o =
-        seen-before (chord q l) (chord-found-least d (v .ten) (v .ends) t (v .labels) γ b (v .branch) q l c) e ss
-        (chord-found-local d (v .ten) (v .ends) t (v .labels) γ b (v .branch) q l c) (order-before _ e (sym (chord-stands q l) ∙ o))
-    step-before (Edge q l) c o =
-        seen-before (edge q l) (edge-found-least d (v .ten) (v .ends) t (v .labels) γ b (v .branch) q l c) e ss
-        (edge-local d (v .ten) (v .ends) t (v .labels) γ b (v .branch) q (c .device) l (c .place) (c .free) (c .label) (c .some) .0)
-        (order-before _ e (sym (edge-stands q l) ∙ o))
-    step-before None c o = let z : _≡_ {A = ℕ} 0 1 = cc in absurd (omega arith)
-
-    -- AFTER e: nothing is
-    pub step-after : (s : Extension) → Extension-found t b s → step-order b s e ≡ After → Better kinds-before d γ (e ∷ ss) f → ⊥
-    unfolding Better
-    step-after (Chord q l) c o m =
-        seen-after (chord q l) (chord-found-least d (v .ten) (v .ends) t (v .labels) γ b (v .branch) q l c) e ss
-        (order-after _ e (sym (chord-stands q l) ∙ o)) m
-    step-after (Edge q l) c o m =
-        seen-after (edge q l) (edge-found-least d (v .ten) (v .ends) t (v .labels) γ b (v .branch) q l c) e ss
-        (order-after _ e (sym (edge-stands q l) ∙ o)) m
-    step-after None c o (inl s) = nothing-found d (v .ten) (v .ends) t (v .labels) γ b (v .branch) c (s .l) (s .local)
-    step-after None c o (inr m) = nothing-found d (v .ten) (v .ends) t (v .labels) γ b (v .branch) c e (m .0)
 
     chord-equal : (q l : ℕ) → step-order b (Chord q l) e ≡ Equal → chord q l ≡ e
     chord-equal q l o = order-equal _ e (sym (chord-stands q l) ∙ o)

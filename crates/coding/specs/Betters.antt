@@ -3,7 +3,7 @@ use mathlib.Core.Path.{_≡_}
 use mathlib.Core.Bool.{Bool, true, false}
 use mathlib.Core.List.{List, [], _∷_}
 use mathlib.Core.Logic.{_⊎_}
-use Prim.Native.Nat.{ℕ, _+_, _/_, _≤_, _<_}
+use Prim.Native.Nat.{ℕ, _/_, _≤_, _<_}
 use lib.ListN.{length, take, drop}
 use Rattle.laws.specs.Rows.{row}
 use Rattle.graphs.specs.Drawing.{Drawing, kind}
@@ -19,7 +19,7 @@ use Rattle.branches.specs.declared.«record».Order.{Order}
 use Rattle.branches.specs.declared.«record».Order.the-variants.{After}
 use Rattle.codes.specs.Code.{code-records}
 use Rattle.branches.specs.Records.{order-of}
-use Rattle.branches.specs.Ways.{chord-with, edge-with, Way, followed}
+use Rattle.branches.specs.Ways.{chord-with, edge-with}
 
 -- a test that tells whether P
 pub record Decides (r : Bool) (P : Type 0) : Type 0 where
@@ -52,10 +52,6 @@ pub record Follows (t bs : List ℕ) (k : ℕ) (b : State) : Type 0 where
 -- something before the code's next record is seen below it
 abbrev pub Better-below : List ℕ → (k : ℕ) → State → Type 0
 Better-below bs k b = Better kinds-before (decoded (code-records bs)) (take k (code-records bs)) (drop k (code-records bs)) (numbering b)
-
--- no way below w of the extension s leads to such a branch
-abbrev pub No-way-below : (t bs : List ℕ) (k : ℕ) (b : State) (s : Extension) → (w : ℕ) → Type 0
-No-way-below t bs k b s w = (v : ℕ) → v < w → Way t b s v → Better-below bs (k + 1) (followed b s v) → ⊥
 
 -- STARTS: a cable seen from one end
 pub record Seen-cable (d : Drawing) (e : Rec) : Type 0 where

@@ -9,9 +9,11 @@ use lib.ListN.{length, getD, take, drop, take-append-drop, List·getD-eq-default
 use lib.Seq.{length-take-le, getD-take}
 use borrow.Author.Tests.{eq-eqb, ne-eqb, le-ltb}
 use Rattle.laws.specs.Rows.{rows, rows-front}
+use Rattle.graphs.specs.Drawing.{devices}
 use Rattle.codes.specs.Code.{Rec, fresh, rec-in, recs-in, code-records, rows-refusal, decoded, code-refusal, Least}
 use Rattle.codes.specs.CodeBytes.{accepted-code}
 use Rattle.codes.specs.BranchState.{Labels}
+use Rattle.branches.specs.CodeRows.{code-ten}
 use Rattle.branches.specs.TableOfCode.{Byte-code, code-pattern}
 use Rattle.coding.specs.Betters.{Some-start}
 use Rattle.coding.specs.LeastStarts.{some-not-least, none-least}
@@ -57,10 +59,12 @@ module _ {bs : List ℕ} {m n : ℕ} (A : Accepted-front bs m n) where
   pub front-counted : {t : List ℕ} → Labels (decoded (code-records (take (5 * m) bs))) t → Counted t (take (5 * m) bs) m n
   unfolding decoded
   front-counted labels =
+      let exactly : n ≡ devices (decoded (code-records (take (5 * m) bs))) = rw (front-records bs m front-room) (A .count) in
       record {
         tabled = record { accepted = front-refusal; labels = labels };
         records = sym (front-count bs m front-room);
-        devices-is = rw (front-records bs m front-room) (A .count);
+        within = omega (arith, exactly);
+        most = omega (arith, exactly, code-ten (take (5 * m) bs) front-refusal);
       }
 
   -- WHAT THE STARTS TELL of it

@@ -347,8 +347,9 @@ fn start_better(table: &[u32; CELLS], code: &[u8], m: usize, n: usize, cable: Re
     }
 }
 
-// Whether some start does: every cable of the code, seen from each of its ends.
-fn some_start_better(table: &[u32; CELLS], code: &[u8], m: usize, n: usize) -> bool
+// Whether some start does: every cable of the code, seen from each of its ends. The first is the code's own numbering, by
+// which most codes that are not least are found out. n is any bound of the devices' number.
+pub(crate) fn some_start_better(table: &[u32; CELLS], code: &[u8], m: usize, n: usize) -> bool
     requires { ⌜ Counted (now table) (now code) m n ⌝ }
     ensures { λ r. ⌜ Decides r (Some-start (code-records (now (code .entry)))) ⌝ }
 {

@@ -8,6 +8,7 @@ use Rattle.codes.specs.CodeBytes.{accepted-code}
 use Rattle.records.specs.declared.refusal.Checked.the-variants.{Accepted}
 use Rattle.coding.specs.Readings.{code-checked}
 use Rattle.coding.specs.CheckLaws.{checked-accepted}
+use Rattle.branches.specs.CodeRows.{code-ten}
 use Rattle.branches.specs.TableOfCode.{Byte-code, code-pattern}
 use Rattle.coding.specs.LeastStarts.{some-not-least, none-least}
 use Rattle.coding.proofs.least.is_least.Statement.{statement}
@@ -40,7 +41,14 @@ labels-of-code-requires : tie.Need-labels-of-code-requires
 labels-of-code-requires c κs = known c .accepted
 
 some-start-better-requires : tie.Need-some-start-better-requires
-some-start-better-requires c κs = record { accepted = known (c .before .before) .accepted; labels = c .before .labels-of-code .ensures }
+some-start-better-requires c κs =
+    let k = known (c .before .before) in
+    record {
+      tabled = record { accepted = k .accepted; labels = c .before .labels-of-code .ensures };
+      records = refl;
+      within = code-ten _ (k .accepted);
+      most = omega arith;
+    }
 
 returns-2 : tie.Need-returns-2
 returns-2 c =

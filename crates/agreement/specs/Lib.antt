@@ -4,3 +4,4 @@ pub mod ThirdDemand
 pub mod ReadEntries
 pub mod Catalogues
 pub mod Determined
+pub mod RefusalCases

@@ -12,7 +12,10 @@
  * WHAT A CALL RETURNS is one number, (drawing * 256 + refusal) * 2^32 + count. holvreiz_refusal, holvreiz_count and
  * holvreiz_drawing take it apart. A refusal of 0 is an answer. A refused call has count 0 and writes nothing; only
  * HOLVREIZ_OUTPUT_LENGTH of a catalogue leaves the whole lent output zero. Lent bytes past an answer keep their content.
- * No count reaches 2^32, if fewer than 42 * 2^32 bytes are lent to a catalogue.
+ * No count reaches 2^32: a catalogue has at most 8,446,368 entries.
+ *
+ * STACK: holvreiz_catalogue needs about 1.7 MB, also where it refuses; the others need less than 32 KB. A main thread has 8 MB as a
+ * rule; a thread that calls it should have 4 MB (pthread_attr_setstacksize). There is no heap.
  */
 #ifndef HOLVREIZ_H
 #define HOLVREIZ_H
@@ -94,7 +97,8 @@ uint64_t holvreiz_match(const uint8_t *pattern, size_t pattern_length, const uin
 uint64_t holvreiz_same(const uint8_t *first, size_t first_length, const uint8_t *second, size_t second_length);
 
 /* Writes the catalogue of a survey: an entry for each pattern of at most `limit` cables (1 to 8) that at least `threshold`
- * drawings (1 to 32) contain, codes rising. Needs 42 bytes of output for each entry. Count: entries. */
+ * drawings (1 to 32) contain, codes rising. Needs 42 bytes of output for each entry; how many there are the call alone can tell: after
+ * HOLVREIZ_OUTPUT_LENGTH lend more and call again. 65,520 bytes do for most surveys at 2 and 4. Count: entries. */
 uint64_t holvreiz_catalogue(const uint8_t *survey, size_t survey_length, uint32_t threshold, uint32_t limit,
                             uint8_t *output, size_t output_length);
 

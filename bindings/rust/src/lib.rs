@@ -6,22 +6,30 @@
 //!
 //! ```
 //! // two devices, of kinds 2 and 1, joined by a cable of kind 7
-//! let mut drawing = [0; holvreiz::DRAWING_BYTES];
-//! drawing[..4].copy_from_slice(&[2, 1, 2, 1]);
-//! drawing[12..15].copy_from_slice(&[0, 1, 7]);
+//! let mut drawing = holvreiz::Drawing::new();
+//! let two = drawing.device(2)?;
+//! let one = drawing.device(1)?;
+//! drawing.cable(two, one, 7)?;
 //!
 //! let mut code = [0; holvreiz::CODE_BYTES];
-//! let length = holvreiz::code(&drawing, &mut code)?;
+//! let length = holvreiz::code(&drawing.bytes(), &mut code)?;
 //! assert_eq!(code[..length], [0, 1, 1, 7, 2]);
 //! # Ok::<(), holvreiz::Refusal>(())
 //! ```
+//!
+//! **Stack.** There is no heap and no state, so that calls from several threads do not disturb each other. [`catalogue`] needs
+//! about 1.7 MB of stack, a refused call too: the main thread has 8 MB as a rule and a thread of `std::thread` 2 MB; one made
+//! with `std::thread::Builder::stack_size` should have 4 MB or more. The other calls need less than 32 KB.
 #![warn(missing_docs)]
 
 use std::cmp::Ordering;
 use std::error::Error;
 use std::fmt;
 
+mod drawing;
 pub mod raw;
+
+pub use drawing::Drawing;
 
 /// The size of a drawing: n, m, ten device kinds, twenty cables of three bytes (one end, other end, cable kind).
 pub const DRAWING_BYTES: usize = 72;
@@ -102,6 +110,29 @@ impl Refusal {
         self as u8
     }
 
+    /// The reason in words.
+    pub fn words(self) -> &'static str {
+        match self {
+            Refusal::DrawingLength => {
+                "a drawing is not 72 bytes long, or a survey no multiple of that"
+            }
+            Refusal::DeviceCount => "the number of devices is not 2 to 10",
+            Refusal::CableCount => "the number of cables is not 1 to 20",
+            Refusal::CableEnd => "an end of a cable is no device",
+            Refusal::CableLoop => "both ends of a cable are equal",
+            Refusal::CablePair => "two cables join one pair of devices",
+            Refusal::UnusedByte => "an unused byte is not zero",
+            Refusal::NotConnected => "cables do not lead from each device to every other",
+            Refusal::CodeLength => "a code has no byte, over 100, or no multiple of 5",
+            Refusal::Step => "a record of a code is not a permitted step",
+            Refusal::Kind => "a record of a code gives a device another kind than its first",
+            Refusal::Threshold => "a threshold is not 1 to 32",
+            Refusal::SizeLimit => "a size limit is not 1 to 8",
+            Refusal::SurveyLength => "a survey has no drawing, or over 32",
+            Refusal::OutputLength => "the lent output is too short for the whole answer",
+        }
+    }
+
     /// None for 0, which is an answer.
     fn from_number(number: u8) -> Option<Refusal> {
         let place = usize::from(number).checked_sub(1)?;
@@ -115,7 +146,7 @@ impl Refusal {
 
 impl fmt::Display for Refusal {
     fn fmt(&self, f: &mut fmt::Formatter<'_>) -> fmt::Result {
-        write!(f, "refused {}", self.number())
+        write!(f, "refused {}: {}", self.number(), self.words())
     }
 }
 
@@ -133,7 +164,15 @@ pub struct SurveyRefusal {
 impl fmt::Display for SurveyRefusal {
     fn fmt(&self, f: &mut fmt::Formatter<'_>) -> fmt::Result {
         match self.drawing {
-            Some(drawing) => write!(f, "{} drawing {drawing}", self.refusal),
+            Some(drawing) => {
+                let refusal = self.refusal;
+                write!(
+                    f,
+                    "refused {} drawing {drawing}: {}",
+                    refusal.number(),
+                    refusal.words()
+                )
+            }
             None => write!(f, "{}", self.refusal),
         }
     }
@@ -201,7 +240,9 @@ pub fn same(first: &[u8], second: &[u8]) -> Result<bool, Refusal> {
 /// Writes the catalogue of a survey into `output`, [`ENTRY_BYTES`] for each entry, and gives the number of entries.
 ///
 /// There is an entry for each pattern of at most `limit` cables that at least `threshold` drawings contain; codes rise. Where
-/// the entries don't fit, the whole output is zero and the refusal is [`Refusal::OutputLength`].
+/// the entries don't fit, the whole output is zero and the refusal is [`Refusal::OutputLength`]. How many there are the call
+/// alone can tell: lend more and call again. 65,520 bytes, 1,560 entries, do for most surveys at 2 and 4; no survey has more than
+/// 8,446,368 entries. A catalogue needs about 1.7 MB of stack (see the crate's first page).
 pub fn catalogue(
     survey: &[u8],
     threshold: u32,

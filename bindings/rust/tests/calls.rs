@@ -136,7 +136,10 @@ fn the_catalogue_of_a_survey() {
         (refused.refusal, refused.drawing),
         (Refusal::NotConnected, Some(2))
     );
-    assert_eq!(refused.to_string(), "refused 8 drawing 2");
+    assert_eq!(
+        refused.to_string(),
+        "refused 8 drawing 2: cables do not lead from each device to every other"
+    );
 }
 
 #[test]
@@ -144,5 +147,8 @@ fn refusals_have_the_numbers_of_the_format() {
     for (place, refusal) in Refusal::ALL.iter().enumerate() {
         assert_eq!(usize::from(refusal.number()), place + 1);
     }
-    assert_eq!(Refusal::SurveyLength.to_string(), "refused 14");
+    assert_eq!(
+        Refusal::SurveyLength.to_string(),
+        "refused 14: a survey has no drawing, or over 32"
+    );
 }

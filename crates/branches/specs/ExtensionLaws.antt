@@ -11,7 +11,17 @@ use lib.ListN.{length, getD}
 use borrow.Author.Tests.{eq-eqb, ne-eqb, lt-ltb, le-ltb}
 use Rattle.laws.specs.Tests.{true-and-false}
 use Rattle.laws.specs.Lists.{getD-default}
-use Rattle.codes.specs.BranchState.{State, Open-place, Free, chord-label, edge-label, Chord-found, No-chord, Edge-found, Nothing-found}
+use Rattle.codes.specs.BranchState.{
+  State,
+  Open-place,
+  Free,
+  chord-label,
+  edge-label,
+  Chord-found,
+  No-chord,
+  Edge-found,
+  Nothing-found,
+}
 use Rattle.branches.specs.Extensions.{lesser-label, Chord-seen, Edge-to, Least-edge}
 
 -- THE LESSER OF TWO LABELS, by the tests made

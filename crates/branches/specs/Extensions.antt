@@ -5,7 +5,17 @@ use mathlib.Core.List.{List}
 use mathlib.Core.Logic.{_⊎_}
 use Prim.Native.Nat.{ℕ, _≤_, _<_}
 use lib.Dec.{ltb, eqb}
-use Rattle.codes.specs.BranchState.{State, Open-place, Free, chord-label, edge-label, Chord-found, No-chord, Edge-found, Nothing-found}
+use Rattle.codes.specs.BranchState.{
+  State,
+  Open-place,
+  Free,
+  chord-label,
+  edge-label,
+  Chord-found,
+  No-chord,
+  Edge-found,
+  Nothing-found,
+}
 use Rattle.branches.specs.declared.extension.Extension.{Extension}
 use Rattle.branches.specs.declared.extension.Extension.the-variants.{Chord, Edge, None}
 use Rattle.branches.specs.declared.extension.Found.{Found}

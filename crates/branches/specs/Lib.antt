@@ -1,13 +1,7 @@
-pub mod Records
-pub mod RecordLaws
-pub mod Tables
-pub mod TableLaws
-pub mod TableOfCode
-pub mod TableOfDrawing
-pub mod CodeCables
-pub mod CodeRows
-pub mod Branches
+-- Definitions.
 pub mod Extensions
-pub mod ExtensionLaws
 pub mod Ways
+-- Laws over them.
+pub mod Branches
+pub mod ExtensionLaws
 pub mod WayLaws

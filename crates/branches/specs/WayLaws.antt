@@ -8,17 +8,17 @@ use native.Mathlib.Decide.{decLt}
 use Rattle.codes.specs.BranchState.{State, Free, edge-label}
 use Rattle.branches.specs.declared.extension.Extension.{Extension}
 use Rattle.branches.specs.declared.extension.Extension.the-variants.{Chord, Edge, None}
-use Rattle.branches.specs.Ways.{Ties, Next-way}
+use Rattle.branches.specs.Ways.{Ties-way, Next-way}
 
 -- no device from n on below w ties
 abbrev pub No-tie-below : List ℕ → State → (q l n w : ℕ) → Type 0
-No-tie-below t b q l n w = (v : ℕ) → n ≤ v → v < w → Ties t b q l v → ⊥
+No-tie-below t b q l n w = (v : ℕ) → n ≤ v → v < w → Ties-way t b q l v → ⊥
 
 pub ties-start : (t : List ℕ) (b : State) (q l n : ℕ) → No-tie-below t b q l n n
 ties-start t b q l n v h g = absurd (omega arith)
 
 pub ties-next :
-    (t : List ℕ) (b : State) (q l n w : ℕ) → No-tie-below t b q l n w → (Ties t b q l w → ⊥) → No-tie-below t b q l n (w + 1)
+    (t : List ℕ) (b : State) (q l n w : ℕ) → No-tie-below t b q l n w → (Ties-way t b q l w → ⊥) → No-tie-below t b q l n (w + 1)
 ties-next t b q l n w none not v h g s = go (decLt v w)
   where
     go : Dec (v < w) → ⊥

@@ -1,9 +1,9 @@
 // The least record that goes on from a branch: a backward one to the lowest place that has a cable, else a forward one
 // from the deepest place that has one, along its least label.
 use crate::branch::Branch;
-use crate::table::CELLS;
-use crate::table::label;
 use records::drawing::Drawing;
+use tables::table::CELLS;
+use tables::table::label;
 ghost use mathlib.Core.Path.{_≡_};
 ghost use Prim.Native.Nat.{_<_};
 ghost use Rattle.codes.specs.BranchState.{No-chord};

@@ -3,16 +3,16 @@
 // search has to follow every one of them.
 use crate::branch::Branch;
 use crate::extension::Extension;
-use crate::record::Record;
-use crate::table::CELLS;
-use crate::table::cable_kind;
-use crate::table::label;
-use crate::table::other_kind;
 use records::drawing::Drawing;
+use tables::record::Record;
+use tables::table::CELLS;
+use tables::table::cable_kind;
+use tables::table::label;
+use tables::table::other_kind;
 ghost use mathlib.Core.Path.{_≡_};
 ghost use Prim.Native.Nat.{_<_, _≤_};
 ghost use Rattle.codes.specs.BranchBounds.{Bounds};
-ghost use Rattle.branches.specs.Records.{as-rec};
+ghost use Rattle.tables.specs.Records.{as-rec};
 ghost use Rattle.branches.specs.Branches.{state-of};
 ghost use Rattle.branches.specs.Ways.{chord-with, edge-with, Next-way, Can-find, Can-follow, followed};
 

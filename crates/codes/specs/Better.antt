@@ -12,7 +12,7 @@ use Rattle.graphs.specs.Cables.{Has}
 use Rattle.graphs.specs.Embedding.{Ends-in-range}
 use Rattle.graphs.specs.Graph.{Simple}
 use Rattle.codes.specs.Code.{Rec, Reading, fresh, rows-refusal, read-rows, rec-before-by}
-use Rattle.codes.specs.Rows.{rows-invariant, rows-split}
+use Rattle.codes.specs.ReadRows.{rows-invariant, rows-divided}
 use Rattle.codes.specs.Extension.{Local, next, Seen, extension-seen}
 use Rattle.codes.specs.Greedy.{fits-extension, None-before, Greedy}
 use Rattle.codes.specs.FirstRecord.{first-record, first-fits, fits-first}
@@ -51,7 +51,7 @@ module _ (labels : Rec → Rec → Bool) (d : Drawing) where
       x = read-rows fresh (r ∷ rs)
 
       begin : rows-refusal fresh (r ∷ rs) ≡ 0
-      begin = rows-split fresh (r ∷ rs) (e ∷ ss) ok .0
+      begin = rows-divided fresh (r ∷ rs) (e ∷ ss) ok .0
 
       least : None-before labels d (r ∷ rs) e
       least l t = false-unless (rec-before-by labels l e) seen

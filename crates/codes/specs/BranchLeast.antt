@@ -112,7 +112,8 @@ module _ (t : List ℕ) (x : Reading) (b : State) (z : Bounds b) where
           least : l ≤ m
           least = omega (arith, by-least (c .least w f), ap (λ (n : ℕ). edge-label t b n w) pq)
 
-module _ (d : Drawing) (ten : devices d ≤ 10) (ends : Ends-in-range d) (t : List ℕ) (table : Labels d t) (γ : List Rec) (b : State) (r : Represents d γ b) where
+module _ (d : Drawing) (ten : devices d ≤ 10) (ends : Ends-in-range d) (t : List ℕ) (table : Labels d t) (γ : List Rec) (b : State)
+    (r : Represents d γ b) where
   sighted : (e : Rec) → Local d (read-rows fresh γ) (numbering b) e → Sighted t (read-rows fresh γ) b e
   sighted = local-sighted d ten ends t table γ b r
 

@@ -11,10 +11,19 @@ use lib.Seq.{take-all}
 use borrow.Author.Tests.{eqb-true, eqb-false, ltb-false, not-false, le-leb, eq-eqb}
 use Rattle.laws.specs.Tests.{or-none, and-both}
 use Rattle.laws.specs.Lists.{concat}
-use Rattle.laws.specs.Rows.{rows, Sized, rows-length, rows-sized, rows-concat, concat-rows, concat-length, whole-records}
+use Rattle.laws.specs.Rows.{
+  rows,
+  Sized,
+  rows-length,
+  rows-sized,
+  rows-concat,
+  concat-rows,
+  concat-length,
+  whole-records,
+}
 use Rattle.codes.specs.Code.{Rec, fresh, rec-in, recs-in, rec-bytes, rows-refusal, rows-good, code-refusal}
 use Rattle.codes.specs.CodeOrder.{rec-eq}
-use Rattle.codes.specs.Rows.{Good, good-to-test}
+use Rattle.codes.specs.ReadRows.{Good, good-to-test}
 
 -- the five bytes of a record
 abbrev pub five : Rec → List ℕ

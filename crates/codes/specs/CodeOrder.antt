@@ -182,4 +182,5 @@ module _ (labels : Rec → Rec → Bool) where
 -- the paper's order of labels is one
 pub kinds-order : Label-order kinds-before
 unfolding kinds-before labels-same lexicographic rising same-key both-same
-kinds-order = lexicographic-order _ _ _ _ (rising-order (λ r. r .ki)) (lexicographic-order _ _ _ _ (rising-order (λ r. r .c)) (rising-order (λ r. r .kj)))
+kinds-order = lexicographic-order _ _ _ _ (rising-order (λ r. r .ki))
+    (lexicographic-order _ _ _ _ (rising-order (λ r. r .c)) (rising-order (λ r. r .kj)))

@@ -19,7 +19,8 @@ module _ (d e : Drawing) (s : Simple d) (t : Simple e) where
   pub code-along : (rs : List Rec) → Same d e → Code-of d rs → Code-of e rs
   unfolding Same
   code-along rs m c =
-      let x = same-transitive (decoded rs) d e (coded-simple d rs (coded-from-test d s rs c) .ends) (s .ends) (t .ends) (c .numbers, c .describes) m in
+      let x = same-transitive (decoded rs) d e (coded-simple d rs (coded-from-test d s rs c) .ends) (s .ends) (t .ends)
+      (c .numbers, c .describes) m in
       record { good = c .good; numbers = x .0; describes = x .1 }
 
   -- one code of two drawings makes them the same
@@ -35,12 +36,14 @@ module _ (labels : Rec → Rec → Bool) (o : Label-order labels) (d e : Drawing
       (rs ss : List Rec) → Least-by labels d rs → Least-by labels e ss → (rs ≡ ss → Same d e) × (Same d e → rs ≡ ss)
   least-codes-tell rs ss a b = (
     λ h. code-makes-same d e s t rs (a .code) (rw h (b .code)),
-    λ m. least-same labels o d e rs ss a b (code-along e d t s ss (same-symmetric d e (s .ends) (t .ends) m) (b .code)) (code-along d e s t rs m (a .code)),
+    λ m. least-same labels o d e rs ss a b (code-along e d t s ss (same-symmetric d e (s .ends) (t .ends) m) (b .code))
+        (code-along d e s t rs m (a .code)),
   )
 
   -- the same over code bytes
   pub least-bytes-tell :
-      (rs ss : List Rec) → Least-by labels d rs → Least-by labels e ss → (rec-bytes rs ≡ rec-bytes ss → Same d e) × (Same d e → rec-bytes rs ≡ rec-bytes ss)
+      (rs ss : List Rec) → Least-by labels d rs → Least-by labels e ss → (rec-bytes rs ≡ rec-bytes ss → Same d e) ×
+      (Same d e → rec-bytes rs ≡ rec-bytes ss)
   least-bytes-tell rs ss a b =
       let c = least-codes-tell rs ss a b in
       (λ h. c .0 (rec-bytes-injective rs ss h), λ m. ap rec-bytes (c .1 m))

@@ -13,9 +13,20 @@ use Rattle.graphs.specs.Drawing.{Drawing, devices, byte-list}
 use Rattle.graphs.specs.Graph.{Walk, stay, onward, Connected, Pattern}
 use Rattle.graphs.specs.Connected.{walks-from-zero}
 use Rattle.graphs.specs.Patterns.{byte-list-append}
-use Rattle.codes.specs.Code.{Rec, Reading, fresh, forward, stepped, read-rows, rows-good, rec-bytes, decoded, Code-of}
+use Rattle.codes.specs.Code.{
+  Rec,
+  Reading,
+  fresh,
+  forward,
+  stepped,
+  read-rows,
+  rows-good,
+  rec-bytes,
+  decoded,
+  Code-of,
+}
 use Rattle.codes.specs.Reading.{Invariant, Parent}
-use Rattle.codes.specs.Rows.{rows-invariant, decoded-cables, Good, good-from-test}
+use Rattle.codes.specs.ReadRows.{rows-invariant, decoded-cables, Good, good-from-test}
 use Rattle.codes.specs.FullCode.{decoded-simple, coded-itself, coded-to-test}
 
 -- each device but 0 was reached from a lower one, so a walk leads to it from 0
@@ -95,6 +106,6 @@ read-bytes x (r ∷ rs) g b =
     let w = and-split (ltb (r .kj) 256) (byte-list (rec-bytes rs)) (v .1) in
     read-bytes (stepped x r) rs (stepped-bytes x r g (u .0) (w .0)) (w .1)
 
-pub decoded-bytes : (rs : List Rec) → rows-bytes rs ≡ true → byte-list (decoded rs .kinds) ≡ true
+pub decoded-kinds-bytes : (rs : List Rec) → rows-bytes rs ≡ true → byte-list (decoded rs .kinds) ≡ true
 unfolding decoded rows-bytes
-decoded-bytes rs b = read-bytes fresh rs (unfold byte-list fresh in refl) b
+decoded-kinds-bytes rs b = read-bytes fresh rs (unfold byte-list fresh in refl) b

@@ -12,7 +12,7 @@ use Rattle.graphs.specs.Embedding.{Embedding}
 use Rattle.graphs.specs.Graph.{Simple}
 use Rattle.codes.specs.Code.{Rec, Reading, fresh, cable-of, begun, rows-refusal, read-rows, drawn}
 use Rattle.codes.specs.CodeOrder.{rec-eq}
-use Rattle.codes.specs.Rows.{begun-is, begun-to-test, rows-one}
+use Rattle.codes.specs.ReadRows.{begun-is, begun-to-test, rows-one}
 use Rattle.codes.specs.Greedy.{Fits, fits-one}
 
 -- ANY CABLE BEGINS A CODE

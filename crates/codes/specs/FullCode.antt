@@ -15,9 +15,20 @@ use Rattle.graphs.specs.Embeddings.{identity}
 use Rattle.graphs.specs.Isomorphisms.{isomorphism-from-test, isomorphism-to-test, isomorphism-identity}
 use Rattle.graphs.specs.CountingCables.{isomorphism-cables, embedding-full-connected}
 use Rattle.graphs.specs.Graph.{Simple, Pattern}
-use Rattle.codes.specs.Code.{Rec, Reading, fresh, rows-refusal, read-rows, drawn, decoded, Code-of, before-by, Least-by}
+use Rattle.codes.specs.Code.{
+  Rec,
+  Reading,
+  fresh,
+  rows-refusal,
+  read-rows,
+  drawn,
+  decoded,
+  Code-of,
+  before-by,
+  Least-by,
+}
 use Rattle.codes.specs.CodeOrder.{Label-order, before-strict}
-use Rattle.codes.specs.Rows.{rows-invariant, decoded-cables, Good, good-from-test, good-to-test}
+use Rattle.codes.specs.ReadRows.{rows-invariant, decoded-cables, Good, good-from-test, good-to-test}
 use Rattle.codes.specs.Greedy.{Fits, Greedy, greedy-before}
 
 -- a code of d: rows that describe a drawing that is the same

@@ -11,18 +11,29 @@ use Rattle.laws.specs.Lists.{snoc}
 use Rattle.graphs.specs.Drawing.{Drawing}
 use Rattle.graphs.specs.Embedding.{Embedding}
 use Rattle.graphs.specs.Embeddings.{compose, embedding-compose}
-use Rattle.codes.specs.Code.{Rec, Reading, fresh, begun, rows-refusal, read-rows, drawn, rec-same, rec-before-by, before-by}
+use Rattle.codes.specs.Code.{
+  Rec,
+  Reading,
+  fresh,
+  begun,
+  rows-refusal,
+  read-rows,
+  drawn,
+  rec-same,
+  rec-before-by,
+  before-by,
+}
 use Rattle.codes.specs.CodeOrder.{Label-order, rec-same-test, not-before}
 use Rattle.codes.specs.Step.{Step, steps-back, steps-forward, after}
 use Rattle.codes.specs.Reading.{Invariant}
-use Rattle.codes.specs.Rows.{
+use Rattle.codes.specs.ReadRows.{
   step-from-test,
   step-to-test,
   stepped-is,
   begun-is,
   begun-from-test,
   rows-cons,
-  rows-split,
+  rows-divided,
   rows-join,
   rows-one,
   read-snoc,
@@ -73,7 +84,7 @@ module _ (d : Drawing) (r : Rec) (rs : List Rec) (e : Rec) where
       x = read-rows fresh (r ∷ rs)
 
       c : (rows-refusal fresh (r ∷ rs) ≡ 0) × (rows-refusal x (e ∷ []) ≡ 0)
-      c = rows-split fresh (r ∷ rs) (e ∷ []) (t .accepted)
+      c = rows-divided fresh (r ∷ rs) (e ∷ []) (t .accepted)
 
       v : Invariant x
       v = rows-invariant r rs (c .0)
@@ -108,7 +119,7 @@ extension-shortened d x v e t = go (t .step) (t .embedding)
 fits-shorter : (d : Drawing) (rs : List Rec) (e : Rec) → Fits d (snoc rs e) → Fits d rs
 fits-shorter d [] e t = fits-nil d
 fits-shorter d (r ∷ rs) e t =
-    let ok : rows-refusal fresh (r ∷ rs) ≡ 0 = rows-split fresh (r ∷ rs) (e ∷ []) (t .accepted) .0 in
+    let ok : rows-refusal fresh (r ∷ rs) ≡ 0 = rows-divided fresh (r ∷ rs) (e ∷ []) (t .accepted) .0 in
     let s = extension-shortened d (read-rows fresh (r ∷ rs)) (rows-invariant r rs ok) e (fits-extension d r rs e t) in
     record { accepted = ok; numbering = s .0; embedding = s .1 }
 
@@ -125,7 +136,8 @@ fits-through e d f m (r ∷ rs) t =
       accepted = t .accepted;
       numbering = compose (t .numbering) f;
       embedding =
-          embedding-compose (drawn (read-rows fresh (r ∷ rs))) e d (t .numbering) f (rows-invariant r rs (t .accepted) .simple .ends) (t .embedding) m;
+          embedding-compose (drawn (read-rows fresh (r ∷ rs))) e d (t .numbering) f (rows-invariant r rs (t .accepted) .simple .ends)
+          (t .embedding) m;
     }
 
 -- GREEDY

@@ -13,7 +13,7 @@ use Rattle.graphs.specs.Cables.{Has, has-flip}
 use Rattle.graphs.specs.Graph.{Pattern}
 use Rattle.codes.specs.Code.{Rec, fresh, rows-refusal, read-rows, decoded, rec-before-by, Least-by}
 use Rattle.codes.specs.CodeOrder.{Label-order, rec-eq}
-use Rattle.codes.specs.Rows.{rows-cons, begun-from-test, rows-invariant}
+use Rattle.codes.specs.ReadRows.{rows-cons, begun-from-test, rows-invariant}
 use Rattle.codes.specs.Extension.{Local, chord-at, edge-at}
 use Rattle.codes.specs.FirstRecord.{first-record, fits-first}
 use Rattle.codes.specs.FullCode.{coded-itself}

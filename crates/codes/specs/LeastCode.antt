@@ -14,10 +14,31 @@ use Rattle.graphs.specs.Cables.{along, against, Has, has-flip, has-eq, has-firs
 use Rattle.graphs.specs.Embedding.{Embedding, Isomorphism}
 use Rattle.graphs.specs.CountingCables.{embedding-cables}
 use Rattle.graphs.specs.Graph.{Simple, Pattern}
-use Rattle.codes.specs.Code.{Rec, Reading, fresh, cable-of, begun, rows-refusal, read-rows, drawn, decoded, rows-good, Least-by}
+use Rattle.codes.specs.Code.{
+  Rec,
+  Reading,
+  fresh,
+  cable-of,
+  begun,
+  rows-refusal,
+  read-rows,
+  drawn,
+  decoded,
+  rows-good,
+  Least-by,
+}
 use Rattle.codes.specs.CodeOrder.{Label-order}
 use Rattle.codes.specs.Reading.{Invariant}
-use Rattle.codes.specs.Rows.{stepped-is, begun-is, begun-to-test, rows-one, read-snoc, rows-invariant, decoded-cables, good-from-test}
+use Rattle.codes.specs.ReadRows.{
+  stepped-is,
+  begun-is,
+  begun-to-test,
+  rows-one,
+  read-snoc,
+  rows-invariant,
+  decoded-cables,
+  good-from-test,
+}
 use Rattle.codes.specs.Extension.{Extension, Local, local-extension}
 use Rattle.codes.specs.Tight.{Tight, All-tight, tight-begun, tight-step, Some-local, progress}
 use Rattle.codes.specs.Greedy.{
@@ -47,12 +68,12 @@ use Rattle.codes.specs.FullCode.{
 
 module _ (labels : Rec → Rec → Bool) (o : Label-order labels) (d : Drawing) (p : Pattern d) where
   -- WHAT A SEARCH KEEPS: rows that fit, each the least that goes on, and every numbering tight
-  pub record State (r : Rec) (rs : List Rec) : Type 0 where
+  pub record Kept-rows (r : Rec) (rs : List Rec) : Type 0 where
     pub fits : Fits d (r ∷ rs)
     pub greedy : Greedy labels d [] (r ∷ rs)
     pub tight : All-tight d (read-rows fresh (r ∷ rs))
 
-  pub state-begun : (n : Least-extension labels d []) → State (n .e) []
+  pub state-begun : (n : Least-extension labels d []) → Kept-rows (n .e) []
   unfolding Greedy read-rows
   state-begun n =
       let g = fits-one d (n .e) (n .fits) in
@@ -62,7 +83,7 @@ module _ (labels : Rec → Rec → Bool) (o : Label-order labels) (d : Drawing) 
         tight = subst (All-tight d) (sym (begun-is (n .e))) (tight-begun d (p .simple) (n .e) (g .0) (g .1));
       }
 
-  pub state-step : (r : Rec) (rs : List Rec) → State r rs → (n : Least-extension labels d (r ∷ rs)) → State r (snoc rs (n .e))
+  pub state-step : (r : Rec) (rs : List Rec) → Kept-rows r rs → (n : Least-extension labels d (r ∷ rs)) → Kept-rows r (snoc rs (n .e))
   state-step r rs s n =
       record {
         fits = n .fits;
@@ -82,7 +103,7 @@ module _ (labels : Rec → Rec → Bool) (o : Label-order labels) (d : Drawing) 
       t = fits-extension d r rs (n .e) (n .fits)
 
   -- a state goes on, or is a code
-  ahead : (r : Rec) (rs : List Rec) → State r rs → ((e : Rec) × Fits d (snoc (r ∷ rs) e)) ⊎ Coded d (r ∷ rs)
+  ahead : (r : Rec) (rs : List Rec) → Kept-rows r rs → ((e : Rec) × Fits d (snoc (r ∷ rs) e)) ⊎ Coded d (r ∷ rs)
   unfolding decoded
   ahead r rs s = go (progress d p x v f (s .fits .embedding) (s .tight f (s .fits .embedding)))
     where
@@ -113,7 +134,7 @@ module _ (labels : Rec → Rec → Bool) (o : Label-order labels) (d : Drawing) 
       omega (arith, decoded-cables (r ∷ rs), embedding-cables (decoded (r ∷ rs)) d (t .numbering) (decoded-simple r rs (t .accepted)) (t .embedding))
 
   -- with fewer records than cables a state has a least extension
-  pub state-next : (r : Rec) (rs : List Rec) → State r rs → length (r ∷ rs) < length (d .cables) → Least-extension labels d (r ∷ rs)
+  pub state-next : (r : Rec) (rs : List Rec) → Kept-rows r rs → length (r ∷ rs) < length (d .cables) → Least-extension labels d (r ∷ rs)
   state-next r rs s h = go (ahead r rs s)
     where
       go : ((e : Rec) × Fits d (snoc (r ∷ rs) e)) ⊎ Coded d (r ∷ rs) → Least-extension labels d (r ∷ rs)
@@ -121,7 +142,7 @@ module _ (labels : Rec → Rec → Bool) (o : Label-order labels) (d : Drawing) 
       go (inr c) = absurd (omega (arith, coded-length d (p .simple) (r ∷ rs) c))
 
   -- with as many it is a code
-  pub state-coded : (r : Rec) (rs : List Rec) → State r rs → length (r ∷ rs) ≡ length (d .cables) → Coded d (r ∷ rs)
+  pub state-coded : (r : Rec) (rs : List Rec) → Kept-rows r rs → length (r ∷ rs) ≡ length (d .cables) → Coded d (r ∷ rs)
   state-coded r rs s h = go (ahead r rs s)
     where
       go : ((e : Rec) × Fits d (snoc (r ∷ rs) e)) ⊎ Coded d (r ∷ rs) → Coded d (r ∷ rs)
@@ -130,7 +151,7 @@ module _ (labels : Rec → Rec → Bool) (o : Label-order labels) (d : Drawing) 
       go (inr c) = c
 
   -- and least
-  pub state-least : (r : Rec) (rs : List Rec) → State r rs → length (r ∷ rs) ≡ length (d .cables) → Least-by labels d (r ∷ rs)
+  pub state-least : (r : Rec) (rs : List Rec) → Kept-rows r rs → length (r ∷ rs) ≡ length (d .cables) → Least-by labels d (r ∷ rs)
   state-least r rs s h = greedy-least d (p .simple) labels o (p .cables-high) (r ∷ rs) (s .greedy) (state-coded r rs s h)
 
   -- the first record of a search
@@ -142,10 +163,10 @@ module _ (labels : Rec → Rec → Bool) (o : Label-order labels) (d : Drawing) 
   record Complete : Type 0 where
     r : Rec
     rs : List Rec
-    state : State r rs
+    state : Kept-rows r rs
     all : length (r ∷ rs) ≡ length (d .cables)
 
-  complete : (n : ℕ) (r : Rec) (rs : List Rec) → length (r ∷ rs) + n ≡ length (d .cables) → State r rs → Complete
+  complete : (n : ℕ) (r : Rec) (rs : List Rec) → length (r ∷ rs) + n ≡ length (d .cables) → Kept-rows r rs → Complete
   complete zero r rs e s = record { r = r; rs = rs; state = s; all = omega arith }
   complete (suc n) r rs e s =
       let q = state-next r rs s (omega arith) in
@@ -157,8 +178,8 @@ module _ (labels : Rec → Rec → Bool) (o : Label-order labels) (d : Drawing) 
       complete (length (d .cables) - 1) (q .e) [] (omega (arith, p .cables-low)) (state-begun q)
 
   -- EVERY PATTERN HAS A LEAST CODE
-  pub least-there : (rs : List Rec) × Least-by labels d rs
-  least-there = let c = greedy-complete in (c .r ∷ c .rs, state-least (c .r) (c .rs) (c .state) (c .all))
+  pub least-code-there : (rs : List Rec) × Least-by labels d rs
+  least-code-there = let c = greedy-complete in (c .r ∷ c .rs, state-least (c .r) (c .rs) (c .state) (c .all))
 
   -- THE LEAST CODE IS GREEDY
   pub least-greedy : (rs : List Rec) → Least-by labels d rs → Greedy labels d [] rs

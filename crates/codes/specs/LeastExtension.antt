@@ -21,7 +21,7 @@ use Rattle.codes.specs.Code.{Rec, Reading, fresh, cable-of, begun, rows-
 use Rattle.codes.specs.CodeOrder.{Label-order, rec-eq, rec-before-strict}
 use Rattle.codes.specs.Step.{Step, steps-back, steps-forward, after}
 use Rattle.codes.specs.Reading.{Invariant}
-use Rattle.codes.specs.Rows.{rows-split, rows-invariant}
+use Rattle.codes.specs.ReadRows.{rows-divided, rows-invariant}
 use Rattle.codes.specs.Extension.{Extension}
 use Rattle.codes.specs.Greedy.{Fits, fits-nil, fits-one, fits-extension, None-before}
 
@@ -100,7 +100,8 @@ fits-candidate d [] e t =
     is-candidate d e (image (g .2 .0) 0) (image (g .2 .0) 1) (omega (arith, g .0)) (omega (arith, g .1))
     (m .cables 0 1 (e .c) (Has.here (along (g .0) (g .1)) refl)) (m .kinds 0 (omega (arith, m .size))) (m .kinds 1 (omega (arith, m .size)))
 fits-candidate d (r ∷ rs) e t =
-    extension-candidate d (read-rows fresh (r ∷ rs)) (rows-invariant r rs (rows-split fresh (r ∷ rs) (e ∷ []) (t .accepted) .0)) e (fits-extension d r rs e t)
+    extension-candidate d (read-rows fresh (r ∷ rs)) (rows-invariant r rs (rows-divided fresh (r ∷ rs) (e ∷ []) (t .accepted) .0)) e
+    (fits-extension d r rs e t)
 
 -- whether rows fit is decidable
 pub decide-fits : (d : Drawing) (rs : List Rec) → Fits d rs ⊎ (Fits d rs → ⊥)
@@ -129,5 +130,6 @@ module _ (labels : Rec → Rec → Bool) where
 
   pub least-extension : Label-order labels → (d : Drawing) (rs : List Rec) (e : Rec) → Fits d (snoc rs e) → Least-extension d rs
   least-extension o d rs e t =
-      let p = minimum (rec-before-by labels) (λ l. Fits d (snoc rs l)) (rec-before-strict labels o) (λ l. decide-fits d (snoc rs l)) (candidates d) e t in
+      let p = minimum (rec-before-by labels) (λ l. Fits d (snoc rs l)) (rec-before-strict labels o) (λ l. decide-fits d (snoc rs l))
+      (candidates d) e t in
       record { e = p .least; fits = p .holds; least = λ l s. p .none-before l (fits-candidate d rs l s) s }

@@ -8,17 +8,38 @@ use native.Mathlib.Omega.{arith}
 use lib.ListN.{length}
 use Rattle.laws.specs.Tests.{and-split, and-both}
 use Rattle.laws.specs.Lists.{Mem, snoc, snoc-length, mem-map, mem-eq}
-use Rattle.laws.specs.Selections.{each, each-has, each-from, only-if-has, only-if-from, map-from, mem-one, least-of-member, least-of-least}
+use Rattle.laws.specs.Selections.{
+  each,
+  each-has,
+  each-from,
+  only-if-has,
+  only-if-from,
+  map-from,
+  mem-one,
+  least-of-member,
+  least-of-least,
+}
 use Rattle.graphs.specs.Drawing.{Cable, Drawing, member, byte-list}
 use Rattle.graphs.specs.Graph.{Simple, Pattern}
-use Rattle.codes.specs.Code.{Rec, Reading, fresh, stepped, read-rows, decoded, rows-good, rec-before-by, rec-same, Least-by}
+use Rattle.codes.specs.Code.{
+  Rec,
+  Reading,
+  fresh,
+  stepped,
+  read-rows,
+  decoded,
+  rows-good,
+  rec-before-by,
+  rec-same,
+  Least-by,
+}
 use Rattle.codes.specs.CodeOrder.{Label-order, rec-same-test, rec-before-strict}
-use Rattle.codes.specs.Rows.{begun-is, read-snoc, rows-invariant}
+use Rattle.codes.specs.ReadRows.{begun-is, read-snoc, rows-invariant}
 use Rattle.codes.specs.Greedy.{Fits, None-before}
 use Rattle.codes.specs.FirstRecord.{read-first, fits-first}
 use Rattle.codes.specs.LeastExtension.{Least-extension}
 use Rattle.codes.specs.FullCode.{least-unique}
-use Rattle.codes.specs.LeastCode.{State, state-begun, state-step, state-next, state-least, first-extension}
+use Rattle.codes.specs.LeastCode.{Kept-rows, state-begun, state-step, state-next, state-least, first-extension}
 use Rattle.codes.specs.Decoded.{decoded-pattern}
 use Rattle.codes.specs.Branch.{Node, node-fits, node-next, came, node-first}
 use Rattle.codes.specs.LeastSearchLocals.{ways-has, ways-only, choice-is, locals-has, locals-only}
@@ -137,7 +158,7 @@ module _ (labels : Rec → Rec → Bool) (o : Label-order labels) (d : Drawing) 
   module _ (p : Pattern d) where
     search-on :
         (n : ℕ) (r : Rec) (rs : List Rec) (x : Reading) (cs : List Choice) → read-rows fresh (r ∷ rs) ≡ x
-        → length (r ∷ rs) + n ≡ length (d .cables) → State labels o d p r rs → Lists-nodes d (r ∷ rs) cs
+        → length (r ∷ rs) + n ≡ length (d .cables) → Kept-rows labels o d p r rs → Lists-nodes d (r ∷ rs) cs
         → Least-by labels d (r ∷ rs ++ search-rows labels d n x cs)
     unfolding search-rows least-choice
     search-on zero r rs x cs e m s l = rw append-nil (state-least labels o d p r rs s (omega arith))

@@ -21,7 +21,7 @@ use Rattle.codes.specs.Code.{Rec, Reading, end, step-good, kinds-match, 
 use Rattle.codes.specs.CodeOrder.{rec-eq}
 use Rattle.codes.specs.Step.{Step, steps-back, steps-forward}
 use Rattle.codes.specs.Reading.{Invariant}
-use Rattle.codes.specs.Rows.{step-from-test, step-to-test}
+use Rattle.codes.specs.ReadRows.{step-from-test, step-to-test}
 use Rattle.codes.specs.Extension.{edge-record, chord-record, Local, chord-at, edge-at, next}
 use Rattle.codes.specs.LeastSearch.{Choice, choice, way, ways, edge-choice, chord-choice, locals}
 

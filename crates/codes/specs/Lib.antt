@@ -1,8 +1,12 @@
+-- Definitions.
 pub mod Code
+pub mod BranchState
+pub mod LeastSearch
+-- Laws over them.
 pub mod CodeOrder
 pub mod Step
 pub mod Reading
-pub mod Rows
+pub mod ReadRows
 pub mod Extension
 pub mod Tight
 pub mod Greedy
@@ -18,7 +22,6 @@ pub mod Proved
 pub mod Branch
 pub mod Better
 pub mod Runs
-pub mod BranchState
 pub mod Searched
 pub mod Started
 pub mod Descending
@@ -27,7 +30,6 @@ pub mod BranchBounds
 pub mod BranchLaws
 pub mod BranchLeast
 pub mod BranchSteps
-pub mod LeastSearch
 pub mod LeastSearchLocals
 pub mod LeastSearchLaws
 pub mod Overlooked

@@ -15,7 +15,7 @@ use Rattle.graphs.specs.Embedding.{Embedding, Ends-in-range}
 use Rattle.codes.specs.Code.{Rec, Reading, fresh, rows-refusal, read-rows, drawn, end, rec-before-by}
 use Rattle.codes.specs.Step.{Step, steps-back, steps-forward}
 use Rattle.codes.specs.Reading.{Invariant}
-use Rattle.codes.specs.Rows.{step-from-test, rows-cons, rows-split, rows-invariant}
+use Rattle.codes.specs.ReadRows.{step-from-test, rows-cons, rows-divided, rows-invariant}
 use Rattle.codes.specs.Extension.{Local, chord-at, edge-at, next}
 use Rattle.codes.specs.Greedy.{None-before, Greedy, Fits}
 use Rattle.codes.specs.Branch.{Node, node-fits, node-next, Came, came}
@@ -31,21 +31,21 @@ pub data Overlooks (labels : Rec → Rec → Bool) (s e : Rec) : Type 0 where
   by-chord : e .j ≤ e .i → e .j ≡ s .i → labels (relabelled s (e .c) (e .ki)) s ≡ true → Overlooks labels s e
 
 -- A NUMBERING BEGINS with that of fewer records
-pub record Begins (f g : List ℕ) : Type 0 where
+pub record Begins-numbering (f g : List ℕ) : Type 0 where
   pub low : length f ≤ length g
   pub same : (i : ℕ) → i < length f → image g i ≡ image f i
 
-next-begins : {d : Drawing} {x : Reading} {f : List ℕ} {e : Rec} (h : Local d x f e) → Begins f (next h)
+next-begins : {d : Drawing} {x : Reading} {f : List ℕ} {e : Rec} (h : Local d x f e) → Begins-numbering f (next h)
 next-begins (chord-at b h y z) = record { low = omega arith; same = λ i l. refl }
 next-begins {f = f} (edge-at w o j n h y z) = record { low = omega (arith, snoc-length f w); same = λ i l. snoc-old 256 f w i l }
 
-begins-through : {f g h : List ℕ} → Begins f g → Begins g h → Begins f h
+begins-through : {f g h : List ℕ} → Begins-numbering f g → Begins-numbering g h → Begins-numbering f h
 begins-through p q = record { low = omega (arith, p .low, q .low); same = λ i l. q .same i (omega (arith, p .low)) ∙ p .same i l }
 
 pub record Earlier-node (d : Drawing) (γ : List Rec) (g : List ℕ) : Type 0 where
   pub f : List ℕ
   pub node : Node d γ f
-  pub begins : Begins f g
+  pub begins : Begins-numbering f g
 
 pub earlier-node : (d : Drawing) (r : Rec) (rs ss : List Rec) (g : List ℕ) → Node d (r ∷ rs ++ ss) g → Earlier-node d (r ∷ rs) g
 earlier-node d r rs [] g n =
@@ -63,11 +63,12 @@ earlier-node d r rs (s ∷ ss) g n =
         record {
           f = c .f;
           node = c .node;
-          begins = begins-through (subst (Begins (c .f)) (c .is) (next-begins (c .local))) (t .begins);
+          begins = begins-through (subst (Begins-numbering (c .f)) (c .is) (next-begins (c .local))) (t .begins);
         }
 
 -- each record of a greedy code has none before it
-greedy-at : (labels : Rec → Rec → Bool) (d : Drawing) (γ rs : List Rec) (s : Rec) (more : List Rec) → Greedy labels d γ (rs ++ s ∷ more) → None-before labels d (γ ++ rs) s
+greedy-at : (labels : Rec → Rec → Bool) (d : Drawing) (γ rs : List Rec) (s : Rec) (more : List Rec) → Greedy labels d γ (rs ++ s ∷ more)
+    → None-before labels d (γ ++ rs) s
 unfolding Greedy
 greedy-at labels d γ [] s more g = rw append-nil (g .0)
 greedy-at labels d γ (r ∷ rs) s more g = rw append-assoc at (greedy-at labels d (snoc γ r) rs s more (g .1))
@@ -82,7 +83,7 @@ module _ (labels : Rec → Rec → Bool) (d : Drawing) (ten : devices d ≤ 10) 
     x = read-rows fresh (r ∷ ps)
 
     split : (rows-refusal fresh (r ∷ ps) ≡ 0) × (rows-refusal (read-rows fresh (r ∷ ps)) (s ∷ more) ≡ 0)
-    split = rows-split fresh (r ∷ ps) (s ∷ more) (n .accepted)
+    split = rows-divided fresh (r ∷ ps) (s ∷ more) (n .accepted)
 
     step : Step (read-rows fresh (r ∷ ps)) s
     step =
@@ -105,7 +106,8 @@ module _ (labels : Rec → Rec → Bool) (d : Drawing) (ten : devices d ≤ 10) 
         go (steps-back b y z) = omega (arith, b .down)
         go (steps-forward o j h k) =
             true-and-false (forward-same-ends labels l s up refl refl ∙ earlier)
-            (greedy-at labels d [] (r ∷ ps) s more greedy l (node-fits d (snoc (r ∷ ps) l) (snoc f (image g v)) (node-next d ten ends (r ∷ ps) f l (before .node) local)))
+            (greedy-at labels d [] (r ∷ ps) s more greedy l (node-fits d (snoc (r ∷ ps) l) (snoc f (image g v))
+            (node-next d ten ends (r ∷ ps) f l (before .node) local)))
           where
             size : length (before .f) ≡ length (read-rows fresh (r ∷ ps) .kinds)
             size = before .node .embedding .size
@@ -131,7 +133,8 @@ module _ (labels : Rec → Rec → Bool) (d : Drawing) (ten : devices d ≤ 10) 
     last = came d r (ps ++ s ∷ qs) e g (subst (λ (γ : List Rec). Node d (r ∷ γ) g) (sym (append-assoc ps (s ∷ qs) (e ∷ []))) n)
 
     taken : Earlier-node d (r ∷ snoc ps s) (last .f)
-    taken = earlier-node d r (snoc ps s) qs (last .f) (subst (λ (γ : List Rec). Node d (r ∷ γ) (last .f)) (sym (append-assoc ps (s ∷ []) qs)) (last .node))
+    taken = earlier-node d r (snoc ps s) qs (last .f) (subst (λ (γ : List Rec). Node d (r ∷ γ) (last .f))
+        (sym (append-assoc ps (s ∷ []) qs)) (last .node))
 
     came-s : Came d (r ∷ ps) s (taken .f)
     came-s = came d r ps s (taken .f) (taken .node)
@@ -159,7 +162,8 @@ module _ (labels : Rec → Rec → Bool) (d : Drawing) (ten : devices d ≤ 10) 
         go (chord-at b h y z) q (by-chord a i t) =
             let top = last .node .invariant .top in
             let v-low : e .i < length (last .f) = omega (arith, size, top, b .is-end) in
-            let is : kind d (image g (e .i)) ≡ e .ki = ap (λ (k : List ℕ). kind d (image k (e .i))) (sym q) ∙ last .node .embedding .kinds (e .i) v-low ∙ y in
+            let is : kind d (image g (e .i)) ≡ e .ki = ap (λ (k : List ℕ). kind d (image k (e .i))) (sym q) ∙ last .node .embedding .kinds
+            (e .i) v-low ∙ y in
             free-not-greedy (snoc qs e) g n up (e .i) (e .c) (omega (arith, there, size, top, b .is-end)) (omega (arith, ap length q))
             (has-flip (has-eq (ap (λ (k : List ℕ). image k (e .i)) q) (ap (λ (k : List ℕ). image k (e .j)) q ∙ ap (image g) i) refl h))
             (subst (λ (k : ℕ). labels (relabelled s (e .c) k) s ≡ true) (sym is) t) n greedy
@@ -167,7 +171,9 @@ module _ (labels : Rec → Rec → Bool) (d : Drawing) (ten : devices d ≤ 10) 
             omega (arith, j, last .node .invariant .below (e .i) o)
         go (edge-at w o j k h y z) q (by-edge a i t) =
             let v-is : image g (e .j) ≡ w = ap (λ (x : List ℕ). image x (e .j)) (sym q) ∙ snoc-new 256 (last .f) w (e .j) (j ∙ sym size) in
-            let u-is : image g (s .i) ≡ image (last .f) (e .i) = ap (λ (x : List ℕ). image x (s .i)) (sym q) ∙ snoc-old 256 (last .f) w (s .i) i-there ∙ ap (image (last .f)) (sym i) in
+            let u-is : image g (s .i) ≡ image (last .f) (e .i) = ap (λ (x : List ℕ). image x (s .i)) (sym q) ∙ snoc-old 256 (last .f) w
+            (s .i) i-there ∙ ap (image (last .f)) (sym i) in
             let is : kind d (image g (e .j)) ≡ e .kj = ap (kind d) v-is ∙ z in
-            free-not-greedy (snoc qs e) g n up (e .j) (e .c) (omega (arith, there, size, j)) (omega (arith, ap length q, snoc-length (last .f) w, size, j))
+            free-not-greedy (snoc qs e) g n up (e .j) (e .c) (omega (arith, there, size, j))
+            (omega (arith, ap length q, snoc-length (last .f) w, size, j))
             (has-eq (sym u-is) (sym v-is) refl h) (subst (λ (k : ℕ). labels (relabelled s (e .c) k) s ≡ true) (sym is) t) n greedy

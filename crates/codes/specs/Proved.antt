@@ -13,16 +13,25 @@ use Rattle.codes.specs.Code.{Rec, kinds-before, decoded}
 use Rattle.codes.specs.CodeOrder.{kinds-order}
 use Rattle.codes.specs.FullCode.{least-unique}
 use Rattle.codes.specs.LeastCode as LeastCode
-use Rattle.codes.specs.Decoded.{decoded-pattern, decoded-code, decoded-bytes}
+use Rattle.codes.specs.Decoded.{decoded-pattern, decoded-code, decoded-kinds-bytes}
 use Rattle.codes.specs.CodesTell.{least-codes-tell, least-bytes-tell}
-use Rattle.codes.specs.Promise.{Codes-tell, Bytes-tell, Support-same, Least-there, Least-once, Decoded-coded, Map-right}
+use Rattle.codes.specs.Promise.{
+  Codes-tell,
+  Bytes-tell,
+  Support-same,
+  Least-there,
+  Least-once,
+  Decoded-coded,
+  Map-right,
+}
 
 drawing-simple : (xs : List ℕ) → accepted xs ≡ true → Simple (drawing-in xs)
 drawing-simple xs a = accepted-pattern xs a .simple
 
 pub codes-tell : Codes-tell
 unfolding Codes-tell
-codes-tell xs ys rs ss a b = least-codes-tell kinds-before kinds-order (drawing-in xs) (drawing-in ys) (drawing-simple xs a) (drawing-simple ys b) rs ss
+codes-tell xs ys rs ss a b = least-codes-tell kinds-before kinds-order (drawing-in xs) (drawing-in ys) (drawing-simple xs a)
+    (drawing-simple ys b) rs ss
 
 pub bytes-tell : Bytes-tell
 unfolding Bytes-tell
@@ -31,21 +40,21 @@ bytes-tell labels o xs ys rs ss a b = least-bytes-tell labels o (drawing-in xs) 
 pub support-same : Support-same
 unfolding Support-same
 support-same p q ds a b m =
-    Containment.support-same p q (pattern-from-test p a .simple .ends) (pattern-from-test q b .simple .ends) m ds
+    Containment.same-support p q (pattern-from-test p a .simple .ends) (pattern-from-test q b .simple .ends) m ds
 
 pub least-there : Least-there
 unfolding Least-there
-least-there xs a = LeastCode.least-there kinds-before kinds-order (drawing-in xs) (accepted-pattern xs a)
+least-there xs a = LeastCode.least-code-there kinds-before kinds-order (drawing-in xs) (accepted-pattern xs a)
 
 pub least-once : Least-once
 unfolding Least-once
 least-once labels o d e =
-    let l = LeastCode.least-there labels o d (pattern-from-test d e) in
+    let l = LeastCode.least-code-there labels o d (pattern-from-test d e) in
     (l .0, l .1, λ ss k. least-unique labels o d ss (l .0) k (l .1))
 
 pub decoded-coded : Decoded-coded
 unfolding Decoded-coded
-decoded-coded rs g b = (pattern-to-test (decoded rs) (decoded-pattern rs g (decoded-bytes rs b)), decoded-code rs g)
+decoded-coded rs g b = (pattern-to-test (decoded rs) (decoded-pattern rs g (decoded-kinds-bytes rs b)), decoded-code rs g)
 
 pub map-right : Map-right
 unfolding Map-right

@@ -12,7 +12,17 @@ use Rattle.graphs.specs.Cables.{Joins, along, against, Has, Last, has-flip, has
 use Rattle.graphs.specs.Graph.{Distinct, Simple}
 use Rattle.graphs.specs.Simple.{distinct-snoc}
 use Rattle.codes.specs.Code.{Rec, Reading, end, second, cut-to, cable-of, begun, forwarded, backed, drawn}
-use Rattle.codes.specs.Step.{Backward, Step, steps-back, steps-forward, after, Falling, cut-within, cut-falling, cut-second}
+use Rattle.codes.specs.Step.{
+  Backward,
+  Step,
+  steps-back,
+  steps-forward,
+  after,
+  Falling,
+  cut-within,
+  cut-falling,
+  cut-second,
+}
 
 -- the forward record that reached w: a cable from a lower device
 pub record Parent (x : Reading) (w : ℕ) : Type 0 where
@@ -166,7 +176,8 @@ module _ (x : Reading) (v : Invariant x) (e : Rec) (m : Mem (e .i) (x .path)) (p
     below = ahead-below;
     used = λ j k h. inl (ahead-used j k h ∙ sym (cut-second (e .j) (e .i) (x .path) m));
     simple = record {
-      ends = ends-snoc (x .cables) e (length (snoc (x .kinds) (e .kj))) (λ a b k h. grown (omega (arith, v .simple .ends a b k h))) (grown (omega (arith, ahead-i))) (grown (omega arith));
+      ends = ends-snoc (x .cables) e (length (snoc (x .kinds) (e .kj))) (λ a b k h. grown (omega (arith, v .simple .ends a b k h)))
+          (grown (omega (arith, ahead-i))) (grown (omega arith));
       loopless = loopless-snoc x e (λ z. omega (arith, ahead-i)) (v .simple .loopless);
       distinct = distinct-snoc (x .cables) (cable-of e) (v .simple .distinct) (λ k h. omega (arith, v .simple .ends (e .j) (e .i) k (has-flip h)));
     };

@@ -13,11 +13,29 @@ use Rattle.laws.specs.Orders.{Strict-order}
 use Rattle.graphs.specs.Drawing.{Drawing}
 use Rattle.graphs.specs.Cables.{Has}
 use Rattle.graphs.specs.Graph.{Pattern}
-use Rattle.codes.specs.Code.{Rec, Reading, fresh, rows-refusal, read-rows, rec-same, rec-before-by, before-by, Code-of, Least-by}
-use Rattle.codes.specs.CodeOrder.{Label-order, rec-before-strict, before-strict, later-not-before, not-before-lower, same-first}
+use Rattle.codes.specs.Code.{
+  Rec,
+  Reading,
+  fresh,
+  rows-refusal,
+  read-rows,
+  rec-same,
+  rec-before-by,
+  before-by,
+  Code-of,
+  Least-by,
+}
+use Rattle.codes.specs.CodeOrder.{
+  Label-order,
+  rec-before-strict,
+  before-strict,
+  later-not-before,
+  not-before-lower,
+  same-first,
+}
 use Rattle.codes.specs.Extension.{Local, next}
 use Rattle.codes.specs.Greedy.{Fits, fits-prefix}
-use Rattle.codes.specs.Rows.{rows-invariant}
+use Rattle.codes.specs.ReadRows.{rows-invariant}
 use Rattle.codes.specs.FullCode.{Coded, coded-fits, coded-length, coded-from-test, coded-to-test, fits-coded}
 use Rattle.codes.specs.FirstRecord.{first-record, First-cable, fits-first}
 use Rattle.codes.specs.Branch.{Node, node-fits, came}
@@ -28,19 +46,28 @@ Run d γ f [] = Unit {0}
 Run d γ f (e ∷ ss) = (h : Local d (read-rows fresh γ) f e) × Run d (snoc γ e) (next h) ss
 
 -- rows that fit are a run from some numbering of their beginning
-pub record Begins (d : Drawing) (γ ss : List Rec) : Type 0 where
+pub record Begins-run (d : Drawing) (γ ss : List Rec) : Type 0 where
   pub f : List ℕ
   pub node : Node d γ f
   pub run : Run d γ f ss
 
-pub fits-run : (d : Drawing) (r : Rec) (rs ss : List Rec) → Fits d (r ∷ rs ++ ss) → Begins d (r ∷ rs) ss
+pub fits-run : (d : Drawing) (r : Rec) (rs ss : List Rec) → Fits d (r ∷ rs ++ ss) → Begins-run d (r ∷ rs) ss
 unfolding Run
 fits-run d r rs [] t =
     let z : Fits d (r ∷ rs) = rw append-nil at t in
-    record { f = z .numbering; node = record { accepted = z .accepted; invariant = rows-invariant r rs (z .accepted); embedding = z .embedding }; run = tt }
+    record {
+      f = z .numbering;
+      node = record {
+        accepted = z .accepted;
+        invariant = rows-invariant r rs
+            (z .accepted);
+        embedding = z .embedding;
+      };
+      run = tt;
+    }
 fits-run d r rs (e ∷ ss) t = go (fits-run d r (snoc rs e) ss (rw append-assoc t))
   where
-    go : Begins d (r ∷ snoc rs e) ss → Begins d (r ∷ rs) (e ∷ ss)
+    go : Begins-run d (r ∷ snoc rs e) ss → Begins-run d (r ∷ rs) (e ∷ ss)
     go b =
         let c = came d r rs e (b .f) (b .node) in
         record { f = c .f; node = c .node; run = (c .local, subst (λ (g : List ℕ). Run d (snoc (r ∷ rs) e) g ss) (sym (c .is)) (b .run)) }
@@ -121,7 +148,7 @@ module _ (labels : Rec → Rec → Bool) (o : Label-order labels) (d : Drawing) 
               one : Fits d (s ∷ [])
               one = fits-prefix d (s ∷ []) ss z
 
-              behind : Begins d (s ∷ []) ss
+              behind : Begins-run d (s ∷ []) ss
               behind = fits-run d s [] ss z
 
               by-first :
@@ -129,7 +156,8 @@ module _ (labels : Rec → Rec → Bool) (o : Label-order labels) (d : Drawing) 
                   → before-by labels (s ∷ ss) (r ∷ tail) ≡ false
               by-first (less q) a = later-not-before labels o r s tail ss q
               by-first (more q) a =
-                  absurd (true-and-false q (subst (λ (y : Rec). rec-before-by labels y r ≡ false) (a .record-is) (first (a .u) (a .w) (a .k) (a .has))))
+                  absurd (true-and-false q (subst (λ (y : Rec). rec-before-by labels y r ≡ false) (a .record-is)
+                  (first (a .u) (a .w) (a .k) (a .has))))
               by-first (same q) a =
                   let b = fits-first d s (node-fits d (s ∷ []) (behind .f) (behind .node)) in
                   let l = runs (b .u) (b .w) (b .k) (b .has) (b .record-is ∙ sym q) in

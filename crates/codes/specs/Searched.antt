@@ -16,7 +16,14 @@ use Rattle.codes.specs.CodeOrder.{Label-order, before-strict, difference
 use Rattle.codes.specs.Extension.{Local, next}
 use Rattle.codes.specs.Greedy.{Fits}
 use Rattle.codes.specs.Branch.{Node, node-fits, node-next}
-use Rattle.codes.specs.Runs.{Least-local, Least-run, least-run-done, least-run-cut, least-run-step, least-run-lower}
+use Rattle.codes.specs.Runs.{
+  Least-local,
+  Least-run,
+  least-run-done,
+  least-run-cut,
+  least-run-step,
+  least-run-lower,
+}
 
 -- behind equal beginnings the rest decides
 pub same-prefix : (labels : Rec → Rec → Bool) (ps xs ys : List Rec) → before-by labels (ps ++ xs) (ps ++ ys) ≡ before-by labels xs ys
@@ -120,7 +127,8 @@ module _ (labels : Rec → Rec → Bool) (o : Label-order labels) (d : Drawing) 
       each : (g : List ℕ) → Done g ⊎ (g ≡ f) → Least-run labels o d γ g (s .rest)
       each g (inl z) =
           let h = t .full g z in
-          least-run-lower labels o d γ g (t .best .rest) (s .rest) (t .least g z) (same-size (s .rest) (t .best .rest) (s .is) (t .best .is) h) (lower h)
+          least-run-lower labels o d γ g (t .best .rest) (s .rest) (t .least g z)
+          (same-size (s .rest) (t .best .rest) (s .is) (t .best .is) h) (lower h)
       each g (inr z) = rw z (s .least)
 
   -- HOW THE NEXT RECORD e MEETS THE BEST: there is no next record yet; it is the same; or it comes after e and is given up

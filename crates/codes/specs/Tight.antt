@@ -22,7 +22,17 @@ use Rattle.codes.specs.Code.{Rec, Reading, end, cut-to, cable-of, begun,
 use Rattle.codes.specs.CodeOrder.{backward-before-forward, backward-not-before, forward-not-before}
 use Rattle.codes.specs.Step.{Backward, Step, steps-back, steps-forward, after, cut-keeps, cut-second}
 use Rattle.codes.specs.Reading.{Invariant}
-use Rattle.codes.specs.Extension.{Extension, Local, chord-at, edge-at, unbackward, unforward, edge-record, chord-record, local-extension}
+use Rattle.codes.specs.Extension.{
+  Extension,
+  Local,
+  chord-at,
+  edge-at,
+  unbackward,
+  unforward,
+  edge-record,
+  chord-record,
+  local-extension,
+}
 
 -- HOW A CABLE between u and v stands in a state, seen from u: listed; an edge from the path to a device without a number;
 -- a chord that is still permitted; or apart from all that was read
@@ -89,7 +99,8 @@ module _ (labels : Rec → Rec → Bool) (d : Drawing) (p : Pattern d) (x : Read
     chord-stands : (i j u w : ℕ) → Backward x i j → e .j ≤ j → image f i ≡ u → image f j ≡ w → Dec (e .j ≡ j) → Standing (backed x e) f u w
     unfolding cable-of
     chord-stands i j u w b le y z (yes t) =
-        listed (e .i) (e .j) (e .c) (has-last (x .cables) (along refl refl) refl) (ap (image f) (o .is-end ∙ sym (b .is-end)) ∙ y) (ap (image f) t ∙ z)
+        listed (e .i) (e .j) (e .c) (has-last (x .cables) (along refl refl) refl) (ap (image f) (o .is-end ∙ sym (b .is-end)) ∙ y)
+        (ap (image f) t ∙ z)
     chord-stands i j u w b le y z (no t) =
         chord i j (record { is-end = b .is-end; down = b .down; on-path = b .on-path; not-parent = b .not-parent; rising = inr (omega arith) }) y z
 
@@ -144,7 +155,8 @@ module _ (labels : Rec → Rec → Bool) (d : Drawing) (p : Pattern d) (x : Read
     unfolding cable-of end
     edge-stands i u w on le q n (yes y) (yes z) =
         inl
-        (listed (e .i) (e .j) (e .c) (has-last (x .cables) (along refl refl) refl) (old (e .i) u (v .below (e .i) o) (ap (image f) (sym z) ∙ q)) (at-new ∙ sym y))
+        (listed (e .i) (e .j) (e .c) (has-last (x .cables) (along refl refl) refl)
+        (old (e .i) u (v .below (e .i) o) (ap (image f) (sym z) ∙ q)) (at-new ∙ sym y))
     edge-stands i u w on le q n (yes y) (no z) =
         inr
         (chord (e .j) i

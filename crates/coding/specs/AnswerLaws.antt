@@ -10,9 +10,11 @@ use borrow.Author.Tests.{ne-eqb}
 use Rattle.records.specs.declared.refusal.Checked.{Checked}
 use Rattle.records.specs.declared.refusal.Checked.the-variants.{Accepted, Refused}
 use Rattle.records.specs.Refusals.{number-of, number-positive, checked-number}
-use Rattle.records.specs.RefusalLaws.{first-of, first-some, first-none}
+use Rattle.records.specs.Refusals.{first-of}
+use Rattle.records.specs.RefusalLaws.{first-some, first-none}
 use Rattle.coding.specs.declared.answer.Written.{Written}
-use Rattle.coding.specs.Answers.{numbers, written-numbers, or-else, put-answer, Put-says}
+use Rattle.coding.specs.Answers.{numbers, written-numbers, put-answer, Put-says}
+use Rattle.records.specs.Refusals.{or-else}
 
 -- the first that applies of two checks has the first number that applies
 pub or-else-number : (a b : Checked) → checked-number (or-else a b) ≡ first-of (checked-number a) (checked-number b)

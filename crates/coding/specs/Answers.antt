@@ -13,6 +13,7 @@ use Rattle.coding.specs.declared.answer.Compared.{Compared}
 use Rattle.coding.specs.declared.answer.Compared.the-variants as compared
 use Rattle.coding.specs.declared.answer.Verdict.{Verdict}
 use Rattle.coding.specs.declared.answer.Verdict.the-variants as verdict
+use Rattle.laws.specs.Lent.{in-front}
 
 -- THE NUMBERS of an answer: its refusal, 0 for none, and its count, 0 where it refuses
 pub record Numbers : Type 0 where
@@ -39,15 +40,6 @@ abbrev pub verdict-numbers : Verdict → Numbers
 verdict-numbers verdict.No = numbers 0 0
 verdict-numbers verdict.Yes = numbers 0 1
 verdict-numbers (verdict.Refused r) = numbers (number-of r) 0
-
--- the first that applies of two checks
-abbrev pub or-else : Checked → Checked → Checked
-or-else checked.Accepted c = c
-or-else (checked.Refused r) c = checked.Refused r
-
--- LENT BYTES past an answer keep their content
-abbrev pub in-front : (new old : List ℕ) → List ℕ
-in-front new old = new ++ drop (length new) old
 
 -- what is answered, and what the lent bytes are then: a refusal writes nothing
 abbrev pub put-answer : Checked → (bytes : List ℕ) → Written

@@ -10,17 +10,36 @@ use lib.ListN.{length}
 use borrow.Author.Tests.{ltb-false}
 use Rattle.laws.specs.Tests.{or-none}
 use Rattle.laws.specs.Rows.{row}
-use Rattle.codes.specs.Code.{Rec, Reading, fresh, rec-in, recs-in, step-good, kinds-match, stepped, rows-refusal, code-refusal}
+use Rattle.codes.specs.Code.{
+  Rec,
+  Reading,
+  fresh,
+  rec-in,
+  recs-in,
+  step-good,
+  kinds-match,
+  stepped,
+  rows-refusal,
+  code-refusal,
+}
 use Rattle.records.specs.declared.refusal.Refusal.{Refusal}
 use Rattle.records.specs.declared.refusal.Refusal.the-variants as refusal
 use Rattle.records.specs.declared.refusal.Checked.{Checked}
 use Rattle.records.specs.declared.refusal.Checked.the-variants.{Accepted, Refused}
 use Rattle.records.specs.Refusals.{checked-number, number-positive}
 use Rattle.laws.specs.Rows.{rows-left, left-start, left-next, left-end}
-use Rattle.coding.specs.Answers.{or-else}
-use Rattle.coding.specs.declared.reading.Reading as held
-use Rattle.coding.specs.Readings as readings
-use Rattle.coding.specs.Readings.{rows-checked, code-length-checked, code-checked, as-reading, Not-begun, Sound, Steps}
+use Rattle.records.specs.Refusals.{or-else}
+use Rattle.readings.specs.declared.reading.Reading as held
+use Rattle.readings.specs.Readings as readings
+use Rattle.readings.specs.Readings.{
+  rows-checked,
+  code-length-checked,
+  code-checked,
+  as-reading,
+  Not-begun,
+  Sound,
+  Steps,
+}
 use Rattle.codes.specs.Code.{code-records}
 
 -- THE PAPER'S NUMBER of what a check says
@@ -61,9 +80,9 @@ accepted-checked bs fine = go (code-checked bs) (code-checked-number bs ∙ fine
 
 -- THE LENGTH decides, or else the records do
 module _ (bs : List ℕ) where
-  pub length-refused : (r : Refusal) → code-length-checked bs ≡ Refused r → code-checked bs ≡ Refused r
+  pub code-length-refused : (r : Refusal) → code-length-checked bs ≡ Refused r → code-checked bs ≡ Refused r
   unfolding code-checked
-  length-refused r e = rw e
+  code-length-refused r e = rw e
 
   length-accepted : code-length-checked bs ≡ Accepted → code-checked bs ≡ rows-checked 0 fresh (code-records bs)
   unfolding code-checked
@@ -84,8 +103,8 @@ module _ (bs : List ℕ) where
 -- RECORD BY RECORD
 module _ (bs : List ℕ) where
   -- record k
-  abbrev pub record-of : ℕ → Rec
-  record-of k = rec-in (row 5 k bs)
+  abbrev pub checked-record : ℕ → Rec
+  checked-record k = rec-in (row 5 k bs)
 
   -- what the records from k on give, after those before k
   unfoldable pub checked-from : (k : ℕ) → Reading → Checked
@@ -97,16 +116,18 @@ module _ (bs : List ℕ) where
 
   module _ (k : ℕ) (x : Reading) where
     module _ (some : k < length bs / 5) where
-      pub checked-step : step-good x (record-of k) ≡ false → checked-from k x ≡ Refused (refusal.Step k)
+      pub checked-step : step-good x (checked-record k) ≡ false → checked-from k x ≡ Refused (refusal.Step k)
       unfolding checked-from rows-checked
       checked-step e = rw (left-next 5 (length bs / 5) bs k some) (simp e)
 
-      pub checked-kind : step-good x (record-of k) ≡ true → kinds-match x (record-of k) ≡ false → checked-from k x ≡ Refused (refusal.Kind k)
+      pub checked-kind : step-good x (checked-record k) ≡ true → kinds-match x (checked-record k) ≡ false → checked-from k x ≡ Refused
+          (refusal.Kind k)
       unfolding checked-from rows-checked
       checked-kind e f = rw (left-next 5 (length bs / 5) bs k some) (simp (e, f))
 
       checked-next :
-          step-good x (record-of k) ≡ true → kinds-match x (record-of k) ≡ true → checked-from k x ≡ checked-from (k + 1) (stepped x (record-of k))
+          step-good x (checked-record k) ≡ true → kinds-match x (checked-record k) ≡ true → checked-from k x ≡ checked-from (k + 1)
+          (stepped x (checked-record k))
       unfolding checked-from rows-checked
       checked-next e f = rw (left-next 5 (length bs / 5) bs k some) (simp (e, f) (rw add-one))
 
@@ -131,7 +152,7 @@ module _ (bs : List ℕ) where
       }
 
   pub read-next :
-      (k : ℕ) (h r : held.Reading) (e : Rec) → k < length bs / 5 → e ≡ record-of k → Read k h → step-good (as-reading h) e ≡ true
+      (k : ℕ) (h r : held.Reading) (e : Rec) → k < length bs / 5 → e ≡ checked-record k → Read k h → step-good (as-reading h) e ≡ true
       → kinds-match (as-reading h) e ≡ true → Steps h e r → Read (k + 1) r
   read-next k h r e some is p g m s =
       record {

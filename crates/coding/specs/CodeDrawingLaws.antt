@@ -24,13 +24,15 @@ use Rattle.records.specs.RefusalLaws.{first-some, first-none}
 use Rattle.records.specs.Codes.{code-bytes}
 use Rattle.coding.specs.declared.answer.Written.{Written}
 use Rattle.coding.specs.declared.answer.Written.the-variants.{Bytes, Refused}
-use Rattle.coding.specs.Answers.{numbers, written-numbers, in-front}
-use Rattle.coding.specs.Readings.{held-records}
+use Rattle.coding.specs.Answers.{numbers, written-numbers}
+use Rattle.laws.specs.Lent.{in-front}
+use Rattle.readings.specs.Readings.{held-records}
 use Rattle.coding.specs.CodeDrawing.{coding-refusal, Code-as, Code-says}
 
 -- ONE BYTE MORE in front
 pub byte-copied :
-    (src dst : List ℕ) (i : ℕ) → i < length src → i < length dst → set (take i src ++ drop i dst) i (getD src i 0) ≡ take (i + 1) src ++ drop (i + 1) dst
+    (src dst : List ℕ) (i : ℕ) → i < length src → i < length dst → set (take i src ++ drop i dst) i (getD src i 0) ≡ take
+    (i + 1) src ++ drop (i + 1) dst
 byte-copied src dst i p q =
     rw (add-one, drop-cons dst i 0 q, take-suc src i 0 p)
     (set-at (take i src) (getD dst i 0) (drop (suc i) dst) (getD src i 0) i (length-take-le i src (omega arith))

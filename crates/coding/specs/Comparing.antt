@@ -6,12 +6,12 @@ use Prim.Native.Nat.{ℕ}
 use Rattle.codes.specs.Code.{Rec, before}
 use Rattle.records.specs.declared.refusal.Checked.{Checked}
 use Rattle.records.specs.declared.refusal.Checked.the-variants as checked
-use Rattle.branches.specs.declared.«record».Order.{Order}
-use Rattle.branches.specs.declared.«record».Order.the-variants.{Before, Equal, After}
+use Rattle.tables.specs.declared.«record».Order.{Order}
+use Rattle.tables.specs.declared.«record».Order.the-variants.{Before, Equal, After}
 use Rattle.coding.specs.declared.answer.Compared.{Compared}
 use Rattle.coding.specs.declared.answer.Compared.the-variants as compared
-use Rattle.coding.specs.Answers.{or-else}
-use Rattle.coding.specs.Readings.{code-checked}
+use Rattle.records.specs.Refusals.{or-else}
+use Rattle.readings.specs.Readings.{code-checked}
 use Rattle.codes.specs.Code.{code-records}
 
 -- ORDER of two codes

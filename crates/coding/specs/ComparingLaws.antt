@@ -15,20 +15,21 @@ use Rattle.records.specs.declared.refusal.Refusal.{Refusal}
 use Rattle.records.specs.declared.refusal.Checked.{Checked}
 use Rattle.records.specs.declared.refusal.Checked.the-variants.{Accepted, Refused}
 use Rattle.records.specs.Refusals.{number-of, number-positive, checked-number}
-use Rattle.records.specs.RefusalLaws.{first-of}
+use Rattle.records.specs.Refusals.{first-of}
 use Rattle.laws.specs.Rows.{rows-left, left-start, left-next, left-end}
-use Rattle.branches.specs.declared.«record».Order.{Order}
-use Rattle.branches.specs.declared.«record».Order.the-variants.{Before, Equal, After}
+use Rattle.tables.specs.declared.«record».Order.{Order}
+use Rattle.tables.specs.declared.«record».Order.the-variants.{Before, Equal, After}
 use Rattle.coding.specs.declared.answer.Compared.{Compared}
 use Rattle.coding.specs.declared.answer.Compared.the-variants as compared
-use Rattle.coding.specs.Answers.{numbers, compared-numbers, or-else}
+use Rattle.coding.specs.Answers.{numbers, compared-numbers}
+use Rattle.records.specs.Refusals.{or-else}
 use Rattle.coding.specs.AnswerLaws.{or-else-number}
-use Rattle.coding.specs.Readings.{code-checked}
+use Rattle.readings.specs.Readings.{code-checked}
 use Rattle.codes.specs.Code.{code-records}
-use Rattle.branches.specs.Records.{order-of}
-use Rattle.branches.specs.RecordLaws.{order-before, order-equal, order-after}
+use Rattle.tables.specs.Records.{order-of}
+use Rattle.tables.specs.RecordLaws.{order-before, order-equal, order-after}
 use Rattle.coding.specs.Comparing.{codes-order, compared-count, order-answer, compare-answer, Compare-says}
-use Rattle.coding.specs.CheckLaws.{record-of, code-checked-number}
+use Rattle.coding.specs.CheckLaws.{checked-record, code-checked-number}
 
 -- ONE RECORD of each
 module _ (r s : Rec) (rs ss : List Rec) where
@@ -69,7 +70,7 @@ module _ (bs : List ℕ) where
   unfolding recs-in recs-left
   recs-start = ap (map rec-in) (left-start 5 (length bs / 5) bs)
 
-  recs-next : (k : ℕ) → k < length bs / 5 → recs-left bs k ≡ record-of bs k ∷ recs-left bs (k + 1)
+  recs-next : (k : ℕ) → k < length bs / 5 → recs-left bs k ≡ checked-record bs k ∷ recs-left bs (k + 1)
   unfolding recs-left
   recs-next k h = ap (map rec-in) (left-next 5 (length bs / 5) bs k h)
 
@@ -86,24 +87,25 @@ module _ (xs ys : List ℕ) where
 
   module _ (k : ℕ) where
     pub order-longer : k < length xs / 5 → length ys / 5 ≤ k → After ≡ order-from k
-    order-longer h g = rw (recs-next xs k h, recs-end ys k g) (codes-longer (record-of xs k) (recs-left xs (k + 1)))
+    order-longer h g = rw (recs-next xs k h, recs-end ys k g) (codes-longer (checked-record xs k) (recs-left xs (k + 1)))
 
     pub order-shorter : length xs / 5 ≤ k → k < length ys / 5 → Before ≡ order-from k
-    order-shorter h g = rw (recs-end xs k h, recs-next ys k g) (codes-shorter (record-of ys k) (recs-left ys (k + 1)))
+    order-shorter h g = rw (recs-end xs k h, recs-next ys k g) (codes-shorter (checked-record ys k) (recs-left ys (k + 1)))
 
     pub order-ended : length xs / 5 ≤ k → length ys / 5 ≤ k → Equal ≡ order-from k
     order-ended h g = rw (recs-end xs k h, recs-end ys k g) codes-equal
 
     module _ (h : k < length xs / 5) (g : k < length ys / 5) where
-      pub order-same : order-of (record-of xs k) (record-of ys k) ≡ Equal → order-from k ≡ order-from (k + 1)
+      pub order-same : order-of (checked-record xs k) (checked-record ys k) ≡ Equal → order-from k ≡ order-from (k + 1)
       order-same e =
           rw (recs-next xs k h, recs-next ys k g)
-          (codes-same (record-of xs k) (record-of ys k) (recs-left xs (k + 1)) (recs-left ys (k + 1)) e)
+          (codes-same (checked-record xs k) (checked-record ys k) (recs-left xs (k + 1)) (recs-left ys (k + 1)) e)
 
-      pub order-differs : (order-of (record-of xs k) (record-of ys k) ≡ Equal → ⊥) → order-of (record-of xs k) (record-of ys k) ≡ order-from k
+      pub order-differs : (order-of (checked-record xs k) (checked-record ys k) ≡ Equal → ⊥) → order-of (checked-record xs k)
+          (checked-record ys k) ≡ order-from k
       order-differs d =
           rw (recs-next xs k h, recs-next ys k g)
-          (codes-differ (record-of xs k) (record-of ys k) (recs-left xs (k + 1)) (recs-left ys (k + 1)) d)
+          (codes-differ (checked-record xs k) (checked-record ys k) (recs-left xs (k + 1)) (recs-left ys (k + 1)) d)
 
 -- WHAT THE ORDER TELLS: equal codes, if neither comes before the other
 pub codes-order-equal : (rs ss : List Rec) → codes-order rs ss ≡ Equal → rs ≡ ss
@@ -156,13 +158,13 @@ answer-numbers (Refused r) rs ss =
     let d : number-of r ≡ 0 → ⊥ = λ e. omega (arith, number-positive r) in
     rw (ne-eqb (number-of r) 0 d)
 
-pub compare-numbers :
+pub compare-says-numbers :
     (xs ys : List ℕ) (r : Compared) → Compare-says xs ys r
     → compared-numbers r
     ≡ numbers (first-of (code-refusal xs) (code-refusal ys))
     (cond (eqb (first-of (code-refusal xs) (code-refusal ys)) 0) (compared-count (code-records xs) (code-records ys)) 0)
 unfolding Compare-says
-compare-numbers xs ys r e =
+compare-says-numbers xs ys r e =
     ap compared-numbers e
     ∙ answer-numbers (or-else (code-checked xs) (code-checked ys)) (code-records xs) (code-records ys)
     ∙ ap (λ (n : ℕ). numbers n (cond (eqb n 0) (compared-count (code-records xs) (code-records ys)) 0))

@@ -11,8 +11,9 @@ use Rattle.records.specs.declared.refusal.Refusal.the-variants.{OutputLength}
 use Rattle.records.specs.declared.refusal.Checked.{Checked}
 use Rattle.records.specs.declared.refusal.Checked.the-variants.{Accepted, Refused}
 use Rattle.coding.specs.declared.answer.Written.{Written}
-use Rattle.coding.specs.Answers.{or-else, Put-says}
-use Rattle.coding.specs.Readings.{code-checked}
+use Rattle.records.specs.Refusals.{or-else}
+use Rattle.coding.specs.Answers.{Put-says}
+use Rattle.readings.specs.Readings.{code-checked}
 use Rattle.codes.specs.Code.{code-records}
 
 -- 9, 10, 11, then 15 where fewer than 72 bytes are lent

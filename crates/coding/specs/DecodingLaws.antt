@@ -30,14 +30,14 @@ use Rattle.codes.specs.Code.{
 }
 use Rattle.codes.specs.Step.{Step, steps-back, steps-forward, after}
 use Rattle.codes.specs.Reading.{Invariant}
-use Rattle.codes.specs.Rows.{
+use Rattle.codes.specs.ReadRows.{
   step-from-test,
   stepped-is,
   begun-is,
   begun-from-test,
   First-row,
   rows-cons,
-  rows-split,
+  rows-divided,
   read-snoc,
   rows-invariant,
   decoded-cables,
@@ -48,14 +48,22 @@ use Rattle.records.specs.declared.refusal.Refusal.{Refusal}
 use Rattle.records.specs.declared.refusal.Refusal.the-variants.{OutputLength}
 use Rattle.records.specs.declared.refusal.Checked.the-variants.{Accepted, Refused}
 use Rattle.records.specs.Refusals.{checked-number}
-use Rattle.records.specs.RefusalLaws.{first-of}
+use Rattle.records.specs.Refusals.{first-of}
 use Rattle.coding.specs.declared.answer.Written.the-variants as written
-use Rattle.coding.specs.Readings.{code-checked}
-use Rattle.coding.specs.Decoding.{decode-checked, decoded-bytes, Decode-says, write-device, write-cable, write-forward, write-record}
+use Rattle.readings.specs.Readings.{code-checked}
+use Rattle.coding.specs.Decoding.{
+  decode-checked,
+  decoded-bytes,
+  Decode-says,
+  write-device,
+  write-cable,
+  write-forward,
+  write-record,
+}
 use Rattle.coding.specs.AnswerLaws.{or-else-number}
-use Rattle.coding.specs.DrawnLaws.{first-some, first-none, forward-some, forward-none, nothing-drawn}
+use Rattle.coding.specs.DrawnLaws.{write-first-some, write-first-none, forward-some, forward-none, nothing-drawn}
 use Rattle.coding.specs.DrawnLaws.{device-more, device-written, cable-more, cable-written}
-use Rattle.coding.specs.CheckLaws.{record-of, code-checked-number, checked-accepted}
+use Rattle.coding.specs.CheckLaws.{checked-record, code-checked-number, checked-accepted}
 
 -- A CABLE AND A NEW DEVICE
 both-written :
@@ -78,7 +86,7 @@ module _ (e : Rec) (good : rows-refusal fresh (e ∷ []) ≡ 0) where
   first-written : write-record 0 e (drawing-bytes (drawn fresh)) ≡ drawing-bytes (drawn (stepped fresh e))
   first-written =
       ap (write-cable 0 e)
-      (ap (write-forward e) (first-some 0 e (drawing-bytes (drawn fresh)) refl ∙ device-zero-written)
+      (ap (write-forward e) (write-first-some 0 e (drawing-bytes (drawn fresh)) refl ∙ device-zero-written)
       ∙ forward-some 0 e (drawing-bytes device-zero) (omega (arith, ends .0, ends .1)))
       ∙ both-written device-zero e (e .j) (ends .1) (omega arith) (omega arith)
       ∙ ap (λ (x : Reading). drawing-bytes (drawn x)) (sym (begun-is e))
@@ -91,12 +99,12 @@ module _ (x : Reading) (v : Invariant x) (e : Rec) (k : ℕ) (later : k ≡ 0 �
   later-written : (s : Step x e) → write-record k e (drawing-bytes (drawn x)) ≡ drawing-bytes (drawn (after s))
   later-written (steps-back o p q) =
       ap (write-cable k e)
-      (ap (write-forward e) (first-none k e (drawing-bytes (drawn x)) later)
+      (ap (write-forward e) (write-first-none k e (drawing-bytes (drawn x)) later)
       ∙ forward-none k e (drawing-bytes (drawn x)) (omega (arith, o .down)))
       ∙ ap (λ (n : ℕ). write-cable n e (drawing-bytes (drawn x))) is ∙ cable-written (drawn x) e (v .ten) (omega arith)
   later-written (steps-forward m p q r) =
       ap (write-cable k e)
-      (ap (write-forward e) (first-none k e (drawing-bytes (drawn x)) later)
+      (ap (write-forward e) (write-first-none k e (drawing-bytes (drawn x)) later)
       ∙ forward-some k e (drawing-bytes (drawn x)) (omega (arith, v .below (e .i) m)))
       ∙ ap (λ (n : ℕ). write-cable n e (write-device (e .j) (e .kj) (drawing-bytes (drawn x)))) is
       ∙ both-written (drawn x) e (e .j) p (omega arith) (omega arith)
@@ -127,7 +135,7 @@ written-more (r ∷ rs) e few good =
     }
   where
     halves : (rows-refusal fresh (r ∷ rs) ≡ 0) × (rows-refusal (read-rows fresh (r ∷ rs)) (e ∷ []) ≡ 0)
-    halves = rows-split fresh (r ∷ rs) (e ∷ []) good
+    halves = rows-divided fresh (r ∷ rs) (e ∷ []) good
 
     x : Reading
     x = read-rows fresh (r ∷ rs)
@@ -146,13 +154,13 @@ written-more (r ∷ rs) e few good =
 
 -- A CODE OF BYTES
 module _ (bs : List ℕ) where
-  recs-more : (k : ℕ) → recs-in (k + 1) bs ≡ snoc (recs-in k bs) (record-of bs k)
+  recs-more : (k : ℕ) → recs-in (k + 1) bs ≡ snoc (recs-in k bs) (checked-record bs k)
   unfolding recs-in
   recs-more k = rw (add-one, rows.rows-snoc) (map-append rec-in (rows.rows 5 k bs) (rows.row 5 k bs ∷ []))
 
   recs-front : (k m : ℕ) → rows-refusal fresh (recs-in (k + m) bs) ≡ 0 → rows-refusal fresh (recs-in k bs) ≡ 0
   unfolding recs-in
-  recs-front k m e = rows-split fresh (recs-in k bs) rest (ap (rows-refusal fresh) (sym parts) ∙ e) .0
+  recs-front k m e = rows-divided fresh (recs-in k bs) rest (ap (rows-refusal fresh) (sym parts) ∙ e) .0
     where
       rest : List Rec
       rest = map rec-in (rows.rows 5 m (drop (5 * k) bs))
@@ -168,9 +176,9 @@ module _ (bs : List ℕ) where
     pub code-few : k < 20
     code-few = omega (arith, accepted-code bs accepted .most)
 
-    more : Written-more (recs-in k bs) (record-of bs k)
+    more : Written-more (recs-in k bs) (checked-record bs k)
     more =
-        written-more (recs-in k bs) (record-of bs k) (rw (recs-in-length k bs) code-few)
+        written-more (recs-in k bs) (checked-record bs k) (rw (recs-in-length k bs) code-few)
         (rw (recs-more k) at (recs-front (k + 1) (length bs / 5 - (k + 1)) (rw all whole)))
       where
         all : k + 1 + (length bs / 5 - (k + 1)) ≡ length bs / 5
@@ -179,12 +187,12 @@ module _ (bs : List ℕ) where
         whole : rows-refusal fresh (recs-in (length bs / 5) bs) ≡ 0
         whole = good-from-test (recs-in (length bs / 5) bs) (accepted-code bs accepted .good) .accepted
 
-    pub decoded-next : write-record k (record-of bs k) (drawing-bytes (decoded (recs-in k bs))) ≡ drawing-bytes (decoded (recs-in (k + 1) bs))
+    pub decoded-next : write-record k (checked-record bs k) (drawing-bytes (decoded (recs-in k bs))) ≡ drawing-bytes (decoded (recs-in (k + 1) bs))
     decoded-next =
-        ap (λ (n : ℕ). write-record n (record-of bs k) (drawing-bytes (decoded (recs-in k bs)))) (sym (recs-in-length k bs))
+        ap (λ (n : ℕ). write-record n (checked-record bs k) (drawing-bytes (decoded (recs-in k bs)))) (sym (recs-in-length k bs))
         ∙ more .written ∙ ap (λ (rs : List Rec). drawing-bytes (decoded rs)) (sym (recs-more k))
 
-    pub decoded-device : record-of bs k .i < record-of bs k .j → record-of bs k .j < 10
+    pub decoded-device : checked-record bs k .i < checked-record bs k .j → checked-record bs k .j < 10
     decoded-device = more .device
 
 -- good rows describe a drawing of ten devices at the most

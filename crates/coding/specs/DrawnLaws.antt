@@ -41,13 +41,13 @@ module _ (bs : List ℕ) where
 
 -- BY THE TESTS MADE
 module _ (k : ℕ) (e : Rec) (bs : List ℕ) where
-  pub first-some : k ≡ 0 → write-first k e bs ≡ write-device 0 (e .ki) bs
+  pub write-first-some : k ≡ 0 → write-first k e bs ≡ write-device 0 (e .ki) bs
   unfolding write-first
-  first-some z = rw (eq-eqb k 0 z)
+  write-first-some z = rw (eq-eqb k 0 z)
 
-  pub first-none : (k ≡ 0 → ⊥) → write-first k e bs ≡ bs
+  pub write-first-none : (k ≡ 0 → ⊥) → write-first k e bs ≡ bs
   unfolding write-first
-  first-none z = rw (ne-eqb k 0 z)
+  write-first-none z = rw (ne-eqb k 0 z)
 
   pub forward-some : e .i < e .j → write-forward e bs ≡ write-device (e .j) (e .kj) bs
   unfolding write-forward

@@ -7,7 +7,7 @@ use Rattle.codes.specs.Code.{Rec, decoded, Least}
 use Rattle.records.specs.declared.refusal.Checked.{Checked}
 use Rattle.records.specs.declared.refusal.Checked.the-variants as checked
 use Rattle.coding.specs.declared.answer.Verdict.{Verdict}
-use Rattle.coding.specs.Readings.{code-checked}
+use Rattle.readings.specs.Readings.{code-checked}
 use Rattle.codes.specs.Code.{code-records}
 use Rattle.coding.specs.declared.answer.Verdict.the-variants as verdict
 

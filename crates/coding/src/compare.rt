@@ -1,10 +1,10 @@
 // Comparing two codes: which comes first in the order of codes.
 use crate::answer::Compared;
-use crate::reading::check_code;
-use branches::record::Order;
-use branches::record::Record;
+use crate::check::check_code;
 use records::code::Code;
 use records::refusal::Checked;
+use tables::record::Order;
+use tables::record::Record;
 ghost use mathlib.Core.Path.{_≡_};
 ghost use Rattle.codes.specs.Code.{code-records};
 ghost use Rattle.coding.specs.Comparing.{codes-order, Compare-says};

@@ -1,26 +1,18 @@
 // Decoding: the drawing that a code describes, as its record of 72 bytes.
 use crate::answer::Written;
-use crate::reading::check_code;
-use branches::record::Record;
+use crate::check::check_code;
+use records::bytes::clear;
 use records::code::Code;
 use records::drawing::Drawing;
 use records::refusal::Checked;
 use records::refusal::Refusal;
+use tables::record::Record;
 ghost use mathlib.Core.Path.{_≡_};
 ghost use Prim.Native.Nat.{_<_};
-ghost use lib.ListN.{length, replicate};
-ghost use Rattle.branches.specs.Records.{as-rec};
+ghost use lib.ListN.{length};
+ghost use Rattle.tables.specs.Records.{as-rec};
 ghost use Rattle.coding.specs.Decoding.{decoded-bytes, Decode-says, Can-write, Can-write-record};
 ghost use Rattle.coding.specs.Decoding.{write-device, write-cable, write-record};
-
-// A record is filled from zeros, since the bytes that it leaves unused are zero.
-fn clear(bytes: &mut [u8])
-    ensures { λ _. ⌜ now (bytes .exit) ≡ replicate (length (now (bytes .entry))) 0 ⌝ }
-{
-    for i in 0..bytes.len() {
-        bytes[i] = 0;
-    }
-}
 
 // The next device of a record under work: it has as many as its number says.
 fn write_device(drawing: &mut [u8], v: usize, kind: u8)

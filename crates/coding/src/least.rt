@@ -1,12 +1,12 @@
 // Whether a code is the least of the drawing that it describes: it is unless some start of that drawing leads to a code
 // before it.
-use crate::accepted::some_start_better;
 use crate::answer::Verdict;
-use crate::reading::check_code;
-use branches::table::labels_of_code;
+use crate::check::check_code;
+use least_test::better::some_start_better;
 use records::code::Code;
 use records::drawing::Drawing;
 use records::refusal::Checked;
+use tables::table::labels_of_code;
 ghost use Rattle.coding.specs.LeastSays.{Least-says};
 
 // Whether a code is the least of the drawing that it describes.

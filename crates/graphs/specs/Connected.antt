@@ -10,7 +10,16 @@ use borrow.Author.Tests.{eqb-true, eq-eqb}
 use lib.ListN.{length}
 use Rattle.laws.specs.Tests.{true-and-false}
 use Rattle.laws.specs.Lists.{Mem, mem-eq}
-use Rattle.laws.specs.Counting.{Different, different-fewer, different-below, different-all, below, below-length, below-bound, below-different}
+use Rattle.laws.specs.Counting.{
+  Different,
+  different-fewer,
+  different-below,
+  different-all,
+  below,
+  below-length,
+  below-bound,
+  below-different,
+}
 use Rattle.graphs.specs.Drawing.{Cable, Drawing, devices, member, with-ends, spread, reached, connected}
 use Rattle.graphs.specs.Cables.{Joins, along, against, Has, has-flip, mem-from-test, mem-to-test}
 use Rattle.graphs.specs.Embedding.{Ends-in-range}

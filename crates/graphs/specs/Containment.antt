@@ -14,7 +14,12 @@ use Rattle.graphs.specs.Survey.{containing, count-true, support}
 use Rattle.graphs.specs.Embedding.{Ends-in-range}
 use Rattle.graphs.specs.Graph.{Simple}
 use Rattle.graphs.specs.Embeddings.{identity, embedding-identity, compose, embedding-compose}
-use Rattle.graphs.specs.Isomorphisms.{isomorphism-devices, isomorphism-from-test, isomorphism-to-test, same-symmetric}
+use Rattle.graphs.specs.Isomorphisms.{
+  isomorphism-devices,
+  isomorphism-from-test,
+  isomorphism-to-test,
+  same-symmetric,
+}
 use Rattle.graphs.specs.CountingCables.{isomorphism-cables, embedding-full}
 use Rattle.graphs.specs.LeastMap.{contains-from-embedding, embedding-from-contains}
 
@@ -65,15 +70,15 @@ module _ (p q : Drawing) (ends-p : Ends-in-range p) (ends-q : Ends-in-range q) (
   containing-same [] = refl
   containing-same (d ∷ ds) = ap₂ {C = List Bool} (λ b bs. b ∷ bs) (contains-same d) (containing-same ds)
 
-  pub support-same : (ds : List Drawing) → support p ds ≡ support q ds
+  pub same-support : (ds : List Drawing) → support p ds ≡ support q ds
   unfolding support
-  support-same ds = ap count-true (containing-same ds)
+  same-support ds = ap count-true (containing-same ds)
 
 -- SAMENESS is containment with as many devices and as many cables
-pub same-is-contained : (p d : Drawing) → Simple p → Simple d → Same p d
+pub same-contained : (p d : Drawing) → Simple p → Simple d → Same p d
     → (contains p d ≡ true) × (devices p ≡ devices d) × (length (p .cables) ≡ length (d .cables))
 unfolding Same
-same-is-contained p d a b (f, e) =
+same-contained p d a b (f, e) =
     let s = isomorphism-from-test p d f (b .ends) e in
     (contains-from-embedding p d f (a .ends) (s .embedding), isomorphism-devices s, isomorphism-cables p d f a b s)
 

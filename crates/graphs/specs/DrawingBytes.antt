@@ -7,18 +7,45 @@ use Prim.Native.Nat.{ℕ, zero, suc, _+_, _*_, _-_, _≤_, _<_}
 use native.Mathlib.Omega.{arith}
 use lib.Dec.{eqb}
 use borrow.Author.Tests.{eqb-true, lt-ltb}
-use lib.ListN.{length, getD, take, drop, replicate, length-append, length-take, length-drop, length-map, length-replicate, take-append-drop}
+use lib.ListN.{
+  length,
+  getD,
+  take,
+  drop,
+  replicate,
+  length-append,
+  length-take,
+  length-drop,
+  length-map,
+  length-replicate,
+  take-append-drop,
+}
 use lib.Seq.{take-at, drop-at, drop-drop, take-add}
 use Rattle.laws.specs.Tests.{and-split, and-both}
 use Rattle.laws.specs.Lists.{concat}
 use Rattle.laws.specs.Rows.{rows, Sized, rows-sized, rows-concat, concat-rows, concat-length}
-use Rattle.graphs.specs.Drawing.{Cable, Drawing, devices, cable-in, cables-in, drawing-in, cable-bytes, drawing-bytes}
+use Rattle.graphs.specs.Drawing.{
+  Cable,
+  Drawing,
+  devices,
+  cable-in,
+  cables-in,
+  drawing-in,
+  cable-bytes,
+  drawing-bytes,
+}
 use Rattle.graphs.specs.Drawing.{all-zero, unused-zero, drawing-refusal, byte-list, is-pattern}
 use Rattle.graphs.specs.Cables.{Has, has-flip, has-first}
 use Rattle.graphs.specs.Graph.{Pattern}
 use Rattle.graphs.specs.Simple.{simple-to-test}
 use Rattle.graphs.specs.Connected.{connected-to-test}
-use Rattle.graphs.specs.Patterns.{Accepted-parts, accepted-parts, refusal-zero, pattern-from-test, byte-list-append}
+use Rattle.graphs.specs.Patterns.{
+  Accepted-parts,
+  accepted-parts,
+  refusal-zero,
+  pattern-from-test,
+  byte-list-append,
+}
 
 -- ZERO BYTES
 pub zeros-from-test : (n : ℕ) (xs : List ℕ) → length xs ≡ n → all-zero xs ≡ true → xs ≡ replicate n 0

@@ -1,13 +1,13 @@
+-- Definitions.
 pub mod Drawing
 pub mod Map
 pub mod Survey
-pub mod Cables
 pub mod Embedding
 pub mod Graph
+-- Laws over them.
+pub mod MarkCounts
+pub mod Cables
 pub mod Simple
-pub mod Connected
-pub mod Patterns
-pub mod DrawingBytes
 pub mod Embeddings
 pub mod Isomorphisms
 pub mod CountingCables
@@ -15,3 +15,9 @@ pub mod PartialMaps
 pub mod FirstMap
 pub mod LeastMap
 pub mod Containment
+pub mod ImageMarks
+pub mod Connected
+pub mod Patterns
+pub mod DrawingBytes
+pub mod AcceptedDrawing
+pub mod AcceptedSurvey

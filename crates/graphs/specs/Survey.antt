@@ -55,3 +55,7 @@ count-true (b ∷ bs) = cond b 1 0 + count-true bs
 -- the support of a pattern: the number of drawings that contain it
 unfoldable pub support : Drawing → List Drawing → ℕ
 support p ds = count-true (containing p ds)
+
+-- the number of whole drawings
+abbrev pub drawing-count : List ℕ → ℕ
+drawing-count bs = length bs / 72

@@ -13,17 +13,23 @@ use Rattle.graphs.specs.Map.{Same}
 use Rattle.graphs.specs.Survey.{survey, support}
 use Rattle.graphs.specs.Graph.{Simple}
 use Rattle.graphs.specs.Patterns.{pattern-from-test, pattern-to-test, byte-list-at, byte-list-from}
-use Rattle.graphs.specs.Containment.{support-same}
+use Rattle.graphs.specs.Containment.{same-support}
 use Rattle.codes.specs.Code.{Rec, Code-of, Least-by, before-by, decoded, kinds-before}
 use Rattle.codes.specs.CodeOrder.{Label-order, kinds-order, before-strict}
-use Rattle.codes.specs.Rows.{good-from-test}
+use Rattle.codes.specs.ReadRows.{good-from-test}
 use Rattle.codes.specs.FullCode.{Coded, coded-from-test, coded-length, coded-simple}
 use Rattle.codes.specs.CodesTell.{code-along}
 use Rattle.codes.specs.Decoded.{decoded-pattern, decoded-code}
 use Rattle.growth.specs.Catalogue.{Entry, entry, Frequent-entry, Catalogue-by, Catalogue-there}
 use Rattle.growth.specs.Settings.{accepted-settings}
 use Rattle.growth.specs.Growth.{Listed, listed-there}
-use Rattle.growth.specs.Frequent.{Frequent, frequent-prefix, decide-frequent, survey-candidates, frequent-candidate}
+use Rattle.growth.specs.Frequent.{
+  Frequent,
+  frequent-prefix,
+  decide-frequent,
+  survey-candidates,
+  frequent-candidate,
+}
 
 -- the entry of a code
 abbrev pub entry-for : List Drawing → List Rec → Entry
@@ -38,7 +44,7 @@ module _ (labels : Rec → Rec → Bool) (o : Label-order labels) (ds : List Dra
   unfolding Same
   own-support p rs k c =
       let d = pattern-from-test p k .simple in
-      support-same (decoded rs) p (coded-simple p rs (coded-from-test p d rs c) .ends) (d .ends) (c .numbers, c .describes) ds
+      same-support (decoded rs) p (coded-simple p rs (coded-from-test p d rs c) .ends) (d .ends) (c .numbers, c .describes) ds
 
   own-frequent : (p : Drawing) (rs : List Rec) → is-pattern p ≡ true → s ≤ support p ds → Least-by labels p rs → Frequent labels ds s rs
   unfolding Same
@@ -93,7 +99,8 @@ module _ (labels : Rec → Rec → Bool) (o : Label-order labels) (ds : List Dra
       whole p [] k n q m = absurd (omega (arith, good-from-test [] (m .code .good) .one))
       whole p (r ∷ rs) k n q m =
           rw (own-support p (r ∷ rs) k (m .code)) at
-          (mem-map (entry-for ds) (t .whole r rs (own-frequent p (r ∷ rs) k q m) (rw (coded-length p simple (r ∷ rs) (coded-from-test p simple (r ∷ rs) (m .code))) n)))
+          (mem-map (entry-for ds) (t .whole r rs (own-frequent p (r ∷ rs) k q m)
+          (rw (coded-length p simple (r ∷ rs) (coded-from-test p simple (r ∷ rs) (m .code))) n)))
         where
           simple : Simple p
           simple = pattern-from-test p k .simple
@@ -102,7 +109,8 @@ module _ (labels : Rec → Rec → Bool) (o : Label-order labels) (ds : List Dra
   pub catalogue-exists : 1 ≤ s → (es : List Entry) × Catalogue-by labels ds s l es
   catalogue-exists one =
       let t =
-      listed-there labels o (Frequent labels ds s) l (frequent-prefix labels o ds s) (decide-frequent labels o ds s) (λ γ. survey-candidates labels o ds s)
+      listed-there labels o (Frequent labels ds s) l (frequent-prefix labels o ds s) (decide-frequent labels o ds s)
+      (λ γ. survey-candidates labels o ds s)
       (λ γ e rest f. frequent-candidate labels o ds s one γ e rest f) l [] (omega arith) in
       (map (entry-for ds) (t .0), listed-catalogue (t .0) (t .1))
 
@@ -126,7 +134,8 @@ module _ (labels : Rec → Rec → Bool) (o : Label-order labels) (ds : List Dra
   pub catalogue-unique : (es gs : List Entry) → Catalogue-by labels ds s l es → Catalogue-by labels ds s l gs → es ≡ gs
   unfolding code-before
   catalogue-unique es gs a b =
-      rising-equal code-before (λ e. before-strict labels o .irrefl (e .code)) (λ e g h. before-strict labels o .trans (e .code) (g .code) (h .code)) es gs
+      rising-equal code-before (λ e. before-strict labels o .irrefl (e .code))
+      (λ e g h. before-strict labels o .trans (e .code) (g .code) (h .code)) es gs
       (rises-entries es (a .rise)) (rises-entries gs (b .rise)) (same-entries es gs a b) (same-entries gs es b a)
 
 -- THE STATEMENT, proved

@@ -15,22 +15,30 @@ use Rattle.graphs.specs.Survey.{containing, count-true, support}
 use Rattle.graphs.specs.Graph.{Pattern}
 use Rattle.graphs.specs.Patterns.{pattern-to-test, byte-list-at, byte-list-from}
 use Rattle.codes.specs.Code.{Rec, Reading, fresh, rows-refusal, read-rows, decoded}
-use Rattle.codes.specs.Rows.{good-from-test, good-to-test}
+use Rattle.codes.specs.ReadRows.{good-from-test, good-to-test}
 use Rattle.codes.specs.Greedy.{Fits}
 use Rattle.codes.specs.Decoded.{decoded-pattern}
-use Rattle.growth.specs.Frequent.{Frequent, supported, fits-contained, contained-fits}
+use Rattle.growth.specs.Frequent.{Frequent, some-containing, fits-contained, contained-fits}
 use Rattle.growth.specs.Places.{Ranks, place-of, record-at}
 use Rattle.growth.specs.CellLaws.{some-member, member-below}
 use Rattle.growth.specs.PlaceLaws.{Placed, place-below, place-record, place-same}
 use Rattle.growth.specs.PlacedRecords.{alone, fits-placed, fits-first-placed}
-use Rattle.growth.specs.Counting.{drawing-at, All-patterns, Grown, First-of, Fits-at, Counting, containing-at}
+use Rattle.growth.specs.CountingExtensions.{
+  drawing-at,
+  All-patterns,
+  Grown,
+  First-of,
+  Fits-at,
+  Counting,
+  containing-at,
+}
 
 -- ALL DRAWINGS WERE WALKED
-abbrev pub Counted : (ds : List Drawing) (γ : List Rec) (rank : List ℕ) (n : ℕ) (sets : ℕ → List Bool) → Type 0
-Counted ds γ rank n sets = Counting (place-of rank n) (Grown γ) ds (length ds) sets
+abbrev pub Counted-extensions : (ds : List Drawing) (γ : List Rec) (rank : List ℕ) (n : ℕ) (sets : ℕ → List Bool) → Type 0
+Counted-extensions ds γ rank n sets = Counting (place-of rank n) (Grown γ) ds (length ds) sets
 
-abbrev pub Counted-first : (ds : List Drawing) (k : ℕ) (rank : List ℕ) (n : ℕ) (sets : ℕ → List Bool) → Type 0
-Counted-first ds k rank n sets = Counting (place-of rank n) (First-of k) ds (length ds) sets
+abbrev pub Counted-firsts : (ds : List Drawing) (k : ℕ) (rank : List ℕ) (n : ℕ) (sets : ℕ → List Bool) → Type 0
+Counted-firsts ds k rank n sets = Counting (place-of rank n) (First-of k) ds (length ds) sets
 
 -- WHAT FITS, WHATEVER THE ROWS
 pub grown-contained : (γ : List Rec) (d : Drawing) (e : Rec) → Fits d (snoc γ e) → contains (decoded (snoc γ e)) d ≡ true
@@ -59,7 +67,7 @@ pub frequent-fits :
     (labels : Rec → Rec → Bool) (ds : List Drawing) (s : ℕ) → 1 ≤ s → (γ : List Rec) (e : Rec) → Frequent labels ds s (snoc γ e)
     → (d : Drawing) × Mem d ds × Fits d (snoc γ e)
 frequent-fits labels ds s one γ e f =
-    let c = supported (decoded (snoc γ e)) ds (omega (arith, f .often)) in
+    let c = some-containing (decoded (snoc γ e)) ds (omega (arith, f .often)) in
     (c .0, c .1, contained-grown γ (c .0) e (good-from-test (snoc γ e) (f .least .code .good) .accepted) (c .2))
 
 -- WHAT IS COUNTED AFTER ROWS γ: records placed by the reading x, all that extend γ of those that fit once

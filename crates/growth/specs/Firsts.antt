@@ -22,9 +22,9 @@ use Rattle.growth.specs.Frequent.{Frequent, frequent-prefix}
 use Rattle.growth.specs.Places.{Ranks, record-at}
 use Rattle.growth.specs.RecordOrder.{same-forward-first, smaller-kind-first}
 use Rattle.growth.specs.PlacedRecords.{alone}
-use Rattle.growth.specs.Counting.{All-patterns, First-of}
-use Rattle.growth.specs.Counted.{Counted-first, first-extending, frequent-fits}
-use Rattle.growth.specs.ListedBy.{Chosen, records-at, chosen-candidate, chosen-rise, chosen-all}
+use Rattle.growth.specs.CountingExtensions.{All-patterns, First-of}
+use Rattle.growth.specs.Counted.{Counted-firsts, first-extending, frequent-fits}
+use Rattle.growth.specs.ListedBy.{Chosen-places, records-at, chosen-candidate, chosen-rise, chosen-all}
 
 -- ALL FIRST RECORDS THAT MATTER, with device 0 of a kind below k
 pub record Firsts (ds : List Drawing) (s k : ℕ) (es : List Rec) : Type 0 where
@@ -64,7 +64,7 @@ module _ {ds : List Drawing} {s k : ℕ} {es : List Rec} (one : 1 ≤ s) (t : Fi
 
   -- THE CANDIDATES OF ONE KIND MORE
   module _ {rank labels : List ℕ} {n : ℕ} {sets : ℕ → List Bool} {ps : List ℕ} (patterns : All-patterns ds) (o : Ranks ds rank labels n)
-      (c : Counted-first ds k rank n sets) (h : Chosen sets s n ps) where
+      (c : Counted-firsts ds k rank n sets) (h : Chosen-places sets s n ps) where
     -- each fits some drawing
     chosen-first : (e : Rec) → Mem e (records-at (alone k) labels n ps) → (e .i ≡ 0) × (e .j ≡ 1) × (e .ki ≡ k)
     chosen-first e m = go (map-from (record-at (alone k) labels n) ps m)

@@ -20,12 +20,25 @@ use Rattle.graphs.specs.Graph.{Pattern}
 use Rattle.graphs.specs.Patterns.{pattern-from-test, pattern-to-test, byte-list-split}
 use Rattle.graphs.specs.LeastMap.{contains-from-embedding, embedding-from-contains}
 use Rattle.graphs.specs.Containment.{support-falls}
-use Rattle.codes.specs.Code.{Rec, Reading, fresh, forward, begun, stepped, read-rows, rows-refusal, rows-good, decoded, before-by, Least-by}
+use Rattle.codes.specs.Code.{
+  Rec,
+  Reading,
+  fresh,
+  forward,
+  begun,
+  stepped,
+  read-rows,
+  rows-refusal,
+  rows-good,
+  decoded,
+  before-by,
+  Least-by,
+}
 use Rattle.codes.specs.CodeOrder.{Label-order, before-strict}
-use Rattle.codes.specs.Rows.{Good, good-from-test, good-to-test, rows-split, rows-invariant, read-append}
+use Rattle.codes.specs.ReadRows.{Good, good-from-test, good-to-test, rows-divided, rows-invariant, read-append}
 use Rattle.codes.specs.Greedy.{Fits, fits-prefix}
 use Rattle.codes.specs.FullCode.{coded-itself, coded-fits, decoded-simple, least-unique}
-use Rattle.codes.specs.LeastCode.{least-there, prefix-of-least-is-least}
+use Rattle.codes.specs.LeastCode.{least-code-there, prefix-of-least-is-least}
 use Rattle.codes.specs.LeastExtension.{candidates, fits-candidate}
 use Rattle.codes.specs.Decoded.{decoded-pattern}
 
@@ -34,17 +47,18 @@ pub fits-contained : (d : Drawing) (r : Rec) (rs : List Rec) → Fits d (r ∷ r
 unfolding decoded
 fits-contained d r rs t = contains-from-embedding (decoded (r ∷ rs)) d (t .numbering) (rows-invariant r rs (t .accepted) .simple .ends) (t .embedding)
 
-pub contained-fits : (d : Drawing) (r : Rec) (rs : List Rec) → rows-refusal fresh (r ∷ rs) ≡ 0 → contains (decoded (r ∷ rs)) d ≡ true → Fits d (r ∷ rs)
+pub contained-fits : (d : Drawing) (r : Rec) (rs : List Rec) → rows-refusal fresh (r ∷ rs) ≡ 0 → contains (decoded (r ∷ rs)) d ≡ true
+    → Fits d (r ∷ rs)
 unfolding decoded
 contained-fits d r rs ok h =
     let m = embedding-from-contains (decoded (r ∷ rs)) d (rows-invariant r rs ok .simple .ends) h in
     record { accepted = ok; numbering = m .0; embedding = m .1 }
 
 -- what has support some drawing contains
-pub supported : (p : Drawing) (ds : List Drawing) → 1 ≤ support p ds → (d : Drawing) × Mem d ds × (contains p d ≡ true)
+pub some-containing : (p : Drawing) (ds : List Drawing) → 1 ≤ support p ds → (d : Drawing) × Mem d ds × (contains p d ≡ true)
 unfolding support containing count-true
-supported p [] h = absurd (omega arith)
-supported p (d ∷ ds) h = go (contains p d) refl (supported p ds) h
+some-containing p [] h = absurd (omega arith)
+some-containing p (d ∷ ds) h = go (contains p d) refl (some-containing p ds) h
   where
     go :
         (b : Bool) → contains p d ≡ b → (1 ≤ count-true (map (contains p) ds) → (d : Drawing) × Mem d ds × (contains p d ≡ true))
@@ -58,7 +72,7 @@ pub decide-least :
 decide-least labels o d p rs = go (before-strict labels o .tri (l .0) rs)
   where
     l : (rs : List Rec) × Least-by labels d rs
-    l = least-there labels o d p
+    l = least-code-there labels o d p
 
     only : Least-by labels d rs → l .0 ≡ rs
     only m = least-unique labels o d (l .0) rs (l .1) m
@@ -99,9 +113,10 @@ pub prefix-good : (r : Rec) (rs ss : List Rec) → rows-good (r ∷ rs ++ ss) �
 prefix-good r rs ss h =
     let g = good-from-test (r ∷ rs ++ ss) h in
     good-to-test (r ∷ rs)
-    (record { one = omega arith; most = omega (arith, g .most, length-append rs ss); accepted = rows-split fresh (r ∷ rs) ss (g .accepted) .0 })
+    (record { one = omega arith; most = omega (arith, g .most, length-append rs ss); accepted = rows-divided fresh (r ∷ rs) ss (g .accepted) .0 })
 
-pub prefix-pattern : (r : Rec) (rs ss : List Rec) → rows-good (r ∷ rs ++ ss) ≡ true → is-pattern (decoded (r ∷ rs ++ ss)) ≡ true → is-pattern (decoded (r ∷ rs)) ≡ true
+pub prefix-pattern : (r : Rec) (rs ss : List Rec) → rows-good (r ∷ rs ++ ss) ≡ true → is-pattern (decoded (r ∷ rs ++ ss)) ≡ true
+    → is-pattern (decoded (r ∷ rs)) ≡ true
 unfolding decoded
 prefix-pattern r rs ss h p = pattern-to-test (decoded (r ∷ rs)) (decoded-pattern (r ∷ rs) g bytes)
   where
@@ -133,7 +148,8 @@ module _ (labels : Rec → Rec → Bool) (o : Label-order labels) (ds : List Dra
           let p = prefix-pattern r rs ss g (f .drawn) in
           record {
             drawn = p;
-            least = prefix-of-least-is-least labels o (decoded (r ∷ rs ++ ss)) (pattern-from-test (decoded (r ∷ rs ++ ss)) (f .drawn)) r rs ss (f .least);
+            least = prefix-of-least-is-least labels o (decoded (r ∷ rs ++ ss))
+                (pattern-from-test (decoded (r ∷ rs ++ ss)) (f .drawn)) r rs ss (f .least);
             often =
                 omega (
                   arith,
@@ -151,11 +167,13 @@ module _ (labels : Rec → Rec → Bool) (o : Label-order labels) (ds : List Dra
   pub decide-frequent : (rs : List Rec) → Frequent labels ds s rs ⊎ (Frequent labels ds s rs → ⊥)
   decide-frequent rs = by-pattern (test (is-pattern (decoded rs)))
     where
-      by-support : is-pattern (decoded rs) ≡ true → Least-by labels (decoded rs) rs → Dec (s ≤ support (decoded rs) ds) → Frequent labels ds s rs ⊎ (Frequent labels ds s rs → ⊥)
+      by-support : is-pattern (decoded rs) ≡ true → Least-by labels (decoded rs) rs → Dec (s ≤ support (decoded rs) ds)
+          → Frequent labels ds s rs ⊎ (Frequent labels ds s rs → ⊥)
       by-support p m (yes q) = inl (record { drawn = p; least = m; often = q })
       by-support p m (no q) = inr (λ f. q (f .often))
 
-      by-least : is-pattern (decoded rs) ≡ true → Least-by labels (decoded rs) rs ⊎ (Least-by labels (decoded rs) rs → ⊥) → Frequent labels ds s rs ⊎ (Frequent labels ds s rs → ⊥)
+      by-least : is-pattern (decoded rs) ≡ true → Least-by labels (decoded rs) rs ⊎ (Least-by labels (decoded rs) rs → ⊥)
+          → Frequent labels ds s rs ⊎ (Frequent labels ds s rs → ⊥)
       by-least p (inl m) = by-support p m (decLe s (support (decoded rs) ds))
       by-least p (inr m) = inr (λ f. m (f .least))
 
@@ -183,5 +201,5 @@ module _ (labels : Rec → Rec → Bool) (o : Label-order labels) (ds : List Dra
 
       go : Frequent labels ds s (snoc γ e) → Mem e (concat (map candidates ds))
       go f =
-          let c = supported (decoded (snoc γ e)) ds (omega (arith, f .often)) in
+          let c = some-containing (decoded (snoc γ e)) ds (omega (arith, f .often)) in
           from (c .0) (c .1) (fits γ (c .0) (accepted f) (c .2))

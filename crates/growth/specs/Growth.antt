@@ -8,13 +8,23 @@ use Prim.Native.Nat.{ℕ, zero, suc, _+_, _-_, _≤_, _<_}
 use native.Mathlib.Omega.{arith}
 use lib.ListN.{length, length-append}
 use Rattle.laws.specs.Lists.{Mem, snoc, snoc-length, mem-front, mem-back, mem-cases}
-use Rattle.laws.specs.Rising.{Rises, rises-nil, rises-cons, rises-append, rises-tail, rises-head, sorted, sorted-rises, sorted-has}
+use Rattle.laws.specs.Rising.{
+  Rises,
+  rises-nil,
+  rises-cons,
+  rises-append,
+  rises-tail,
+  rises-head,
+  sorted,
+  sorted-rises,
+  sorted-has,
+}
 use Rattle.codes.specs.Code.{Rec, rec-before-by, before-by}
 use Rattle.codes.specs.CodeOrder.{Label-order, rec-before-strict, prefix-comes-before, difference-decides}
 
 module _ (labels : Rec → Rec → Bool) (o : Label-order labels) (good : List Rec → Type 0) (l : ℕ) where
   -- c goes on from γ by e and more
-  pub record Goes-on (γ c : List Rec) : Type 0 where
+  pub record Goes-on-from (γ c : List Rec) : Type 0 where
     pub e : Rec
     pub more : List Rec
     pub is : c ≡ γ ++ e ∷ more
@@ -22,13 +32,13 @@ module _ (labels : Rec → Rec → Bool) (o : Label-order labels) (good : List R
   -- ALL THAT IS GOOD, of at most l records, and goes on from γ
   pub record Listed (γ : List Rec) (cs : List (List Rec)) : Type 0 where
     pub rise : Rises (before-by labels) cs
-    pub sound : (c : List Rec) → Mem c cs → good c × (length c ≤ l) × Goes-on γ c
+    pub sound : (c : List Rec) → Mem c cs → good c × (length c ≤ l) × Goes-on-from γ c
     pub whole : (e : Rec) (more : List Rec) → good (γ ++ e ∷ more) → length (γ ++ e ∷ more) ≤ l → Mem (γ ++ e ∷ more) cs
 
   -- the same, of what goes on by one of es
   pub record Listed-by (γ : List Rec) (es : List Rec) (cs : List (List Rec)) : Type 0 where
     pub rise : Rises (before-by labels) cs
-    pub sound : (c : List Rec) → Mem c cs → good c × (length c ≤ l) × ((g : Goes-on γ c) × Mem (g .e) es)
+    pub sound : (c : List Rec) → Mem c cs → good c × (length c ≤ l) × ((g : Goes-on-from γ c) × Mem (g .e) es)
     pub whole : (e : Rec) (more : List Rec) → Mem e es → good (γ ++ e ∷ more) → length (γ ++ e ∷ more) ≤ l → Mem (γ ++ e ∷ more) cs
 
   -- a code of l records does not go on
@@ -45,7 +55,8 @@ module _ (labels : Rec → Rec → Bool) (o : Label-order labels) (good : List R
   listed-none γ = record { rise = rises-nil (before-by labels); sound = λ c m. elim m [ ]; whole = λ e more m. elim m [ ] }
 
   -- es holds every next record that matters
-  pub listed-all : (γ es : List Rec) (cs : List (List Rec)) → ((e : Rec) (more : List Rec) → good (γ ++ e ∷ more) → Mem e es) → Listed-by γ es cs → Listed γ cs
+  pub listed-all : (γ es : List Rec) (cs : List (List Rec)) → ((e : Rec) (more : List Rec) → good (γ ++ e ∷ more) → Mem e es)
+      → Listed-by γ es cs → Listed γ cs
   listed-all γ es cs all t =
       record {
         rise = t .rise;
@@ -71,10 +82,11 @@ module _ (labels : Rec → Rec → Bool) (o : Label-order labels) (good : List R
     -- a good one is listed, then what goes on from it, then the later ones
     pub listed-take :
         (γ : List Rec) (e : Rec) (es : List Rec) (cs ds : List (List Rec)) → good (snoc γ e) → length (snoc γ e) ≤ l
-        → ((x : Rec) → Mem x es → rec-before-by labels e x ≡ true) → Listed (snoc γ e) cs → Listed-by γ es ds → Listed-by γ (e ∷ es) ((snoc γ e ∷ cs) ++ ds)
+        → ((x : Rec) → Mem x es → rec-before-by labels e x ≡ true) → Listed (snoc γ e) cs → Listed-by γ es ds → Listed-by γ (e ∷ es)
+        ((snoc γ e ∷ cs) ++ ds)
     listed-take γ e es cs ds g n later t u = record { rise = rise; sound = sound; whole = whole }
       where
-        under : (c : List Rec) → Goes-on (snoc γ e) c → (more : List Rec) × (c ≡ γ ++ e ∷ more)
+        under : (c : List Rec) → Goes-on-from (snoc γ e) c → (more : List Rec) × (c ≡ γ ++ e ∷ more)
         under c h = (h .e ∷ h .more, h .is ∙ append-assoc γ (e ∷ []) (h .e ∷ h .more))
 
         at : (c : List Rec) → Mem c (snoc γ e ∷ cs) → (more : List Rec) × (c ≡ γ ++ e ∷ more)
@@ -93,10 +105,10 @@ module _ (labels : Rec → Rec → Bool) (o : Label-order labels) (good : List R
         rise : Rises (before-by labels) ((snoc γ e ∷ cs) ++ ds)
         rise = rises-append (before-by labels) (snoc γ e ∷ cs) ds (rises-cons (before-by labels) (snoc γ e) cs first (t .rise)) (u .rise) apart
 
-        sound : (c : List Rec) → Mem c ((snoc γ e ∷ cs) ++ ds) → good c × (length c ≤ l) × ((h : Goes-on γ c) × Mem (h .e) (e ∷ es))
+        sound : (c : List Rec) → Mem c ((snoc γ e ∷ cs) ++ ds) → good c × (length c ≤ l) × ((h : Goes-on-from γ c) × Mem (h .e) (e ∷ es))
         sound c m = go (mem-cases (snoc γ e ∷ cs) m)
           where
-            go : Mem c (snoc γ e ∷ cs) ⊎ Mem c ds → good c × (length c ≤ l) × ((h : Goes-on γ c) × Mem (h .e) (e ∷ es))
+            go : Mem c (snoc γ e ∷ cs) ⊎ Mem c ds → good c × (length c ≤ l) × ((h : Goes-on-from γ c) × Mem (h .e) (e ∷ es))
             go (inl (Mem.here q)) = (subst good q g, rw (← q) n, (record { e = e; more = []; is = sym q }, Mem.here refl))
             go (inl (Mem.there q)) =
                 let s = t .sound c q in

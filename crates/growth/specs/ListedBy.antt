@@ -1,5 +1,5 @@
 -- Candidates in the order of a walk: the records at the places with s drawings, rising by place, rise as records and hold
--- every next record of what is frequent; lists of what goes on by them join. Rests on Counted and Growth. Assumes nothing.
+-- every next record of what is frequent; lists of what goes on by them join. Rests on Counted-extensions and Growth. Assumes nothing.
 use mathlib.Core.Path.{_≡_, refl, sym, ap, _∙_, subst}
 use mathlib.Core.Bool.{Bool, true}
 use mathlib.Core.List.{List, [], _∷_, _++_, map, append-nil}
@@ -18,13 +18,29 @@ use Rattle.graphs.specs.Survey.{count-true}
 use Rattle.codes.specs.Code.{Rec, Reading, fresh, read-rows, kinds-before, rec-before-by, before-by}
 use Rattle.codes.specs.CodeOrder.{Label-order, kinds-order, difference-decides}
 use Rattle.codes.specs.Greedy.{Fits}
-use Rattle.growth.specs.Growth.{Goes-on, Listed, Listed-by, listed-none, listed-all, listed-skip, listed-take}
+use Rattle.growth.specs.Growth.{
+  Goes-on-from,
+  Listed,
+  Listed-by,
+  listed-none,
+  listed-all,
+  listed-skip,
+  listed-take,
+}
 use Rattle.growth.specs.Frequent.{Frequent, frequent-prefix}
 use Rattle.growth.specs.Places.{Ranks, place-of, record-at, cell-number, candidate-of}
 use Rattle.growth.specs.CellLaws.{cell-number-below, candidate-place, candidate-rises}
 use Rattle.growth.specs.PlaceLaws.{place-below, place-record, place-order}
-use Rattle.growth.specs.Counting.{All-patterns, Counting}
-use Rattle.growth.specs.Counted.{Counted, Extending, rows-extending, frequent-fits, counted-candidate, Candidate, candidate-at}
+use Rattle.growth.specs.CountingExtensions.{All-patterns, Counting}
+use Rattle.growth.specs.Counted.{
+  Counted-extensions,
+  Extending,
+  rows-extending,
+  frequent-fits,
+  counted-candidate,
+  Candidate,
+  candidate-at,
+}
 
 -- a rising list stays so under a map that keeps the order of its members
 pub rises-map :
@@ -41,7 +57,7 @@ rises-map {A} {B} f lt before (x ∷ xs) h r =
         (h x (s .a) (Mem.here refl) (Mem.there (s .member)) (rises-head lt x xs r (s .a) (s .member)))
 
 -- THE PLACES WITH s DRAWINGS, rising
-pub record Chosen (sets : ℕ → List Bool) (s n : ℕ) (ps : List ℕ) : Type 0 where
+pub record Chosen-places (sets : ℕ → List Bool) (s n : ℕ) (ps : List ℕ) : Type 0 where
   pub rise : Rises ltb ps
   pub often : (p : ℕ) → Mem p ps → s ≤ count-true (sets p)
   pub all : (p : ℕ) → p < 16 * n → s ≤ count-true (sets p) → Mem p ps
@@ -56,7 +72,8 @@ abbrev pub place-in : ℕ → ℕ
 place-in q = q / (2 ^ 40)
 
 pub chosen-places :
-    (sets : ℕ → List Bool) (s n : ℕ) (qs : List ℕ) → ((p : ℕ) → length (sets p) ≤ 32) → Chosen-cells sets s n qs → Chosen sets s n (map place-in qs)
+    (sets : ℕ → List Bool) (s n : ℕ) (qs : List ℕ) → ((p : ℕ) → length (sets p) ≤ 32) → Chosen-cells sets s n qs → Chosen-places sets s n
+    (map place-in qs)
 chosen-places sets s n qs few c = record { rise = rises-map place-in ltb ltb qs order (c .rise); often = often; all = all }
   where
     is : (p : ℕ) → place-in (candidate-of p (cell-number (sets p))) ≡ p
@@ -96,7 +113,7 @@ records-at x labels n ps = map (record-at x labels n) ps
 
 module _ {ds : List Drawing} {rank labels : List ℕ} {n : ℕ} {γ : List Rec} {x : Reading} {Fit : Drawing → Rec → Type 0} {sets : ℕ → List Bool}
     {s : ℕ} {ps : List ℕ} (o : Ranks ds rank labels n) (t : Extending ds rank labels n γ x Fit)
-    (c : Counting (place-of rank n) Fit ds (length ds) sets) (one : 1 ≤ s) (h : Chosen sets s n ps) where
+    (c : Counting (place-of rank n) Fit ds (length ds) sets) (one : 1 ≤ s) (h : Chosen-places sets s n ps) where
   pub chosen-candidate : (p : ℕ) → Mem p ps → Candidate t c p
   chosen-candidate p m = candidate-at t c p (omega (arith, h .often p m))
 
@@ -127,8 +144,8 @@ module _ {ds : List Drawing} {rank labels : List ℕ} {n : ℕ} {γ : List Rec} 
 
 -- AFTER ROWS: what goes on by the records at chosen places is all that goes on
 module _ {ds : List Drawing} {rank labels : List ℕ} {n : ℕ} {sets : ℕ → List Bool} {s : ℕ} {ps : List ℕ} (patterns : All-patterns ds)
-    (o : Ranks ds rank labels n) (r : Rec) (rs : List Rec) (few : length (r ∷ rs) ≤ 7) (c : Counted ds (r ∷ rs) rank n sets) (one : 1 ≤ s)
-    (h : Chosen sets s n ps) where
+    (o : Ranks ds rank labels n) (r : Rec) (rs : List Rec) (few : length (r ∷ rs) ≤ 7) (c : Counted-extensions ds (r ∷ rs) rank n sets) (one : 1 ≤ s)
+    (h : Chosen-places sets s n ps) where
   pub chosen-listed :
       (l : ℕ) (cs : List (List Rec))
       → Listed-by kinds-before kinds-order (Frequent kinds-before ds s) l (r ∷ rs) (records-at (read-rows fresh (r ∷ rs)) labels n ps) cs
@@ -153,10 +170,10 @@ module _ (labels : Rec → Rec → Bool) (o : Label-order labels) (good : List R
           rw (p .0 .is, q .0 .is)
           (difference-decides labels o γ (p .0 .e) (q .0 .e) (p .0 .more) (q .0 .more) (apart (p .0 .e) (q .0 .e) (p .1) (q .1))))
 
-      sound : (c : List Rec) → Mem c (cs ++ ds) → good c × (length c ≤ l) × ((h : Goes-on labels o good l γ c) × Mem (h .e) (es ++ gs))
+      sound : (c : List Rec) → Mem c (cs ++ ds) → good c × (length c ≤ l) × ((h : Goes-on-from labels o good l γ c) × Mem (h .e) (es ++ gs))
       sound c m = go (mem-cases cs m)
         where
-          go : Mem c cs ⊎ Mem c ds → good c × (length c ≤ l) × ((h : Goes-on labels o good l γ c) × Mem (h .e) (es ++ gs))
+          go : Mem c cs ⊎ Mem c ds → good c × (length c ≤ l) × ((h : Goes-on-from labels o good l γ c) × Mem (h .e) (es ++ gs))
           go (inl k) = let w = t .sound c k in (w .0, w .1, (w .2 .0, mem-front gs (w .2 .1)))
           go (inr k) = let w = u .sound c k in (w .0, w .1, (w .2 .0, mem-back es (w .2 .1)))
 

@@ -17,7 +17,7 @@ use Rattle.graphs.specs.Survey.{survey, survey-refusal, support}
 use Rattle.graphs.specs.Patterns.{pattern-from-test}
 use Rattle.codes.specs.Code.{Rec, fresh, read-rows, rows-good, decoded, kinds-before, rec-before-by}
 use Rattle.codes.specs.CodeOrder.{Label-order, kinds-order, rec-eq, rec-before-strict}
-use Rattle.codes.specs.Rows.{rows-split, rows-invariant}
+use Rattle.codes.specs.ReadRows.{rows-divided, rows-invariant}
 use Rattle.codes.specs.Greedy.{Fits, fits-extension}
 use Rattle.codes.specs.Extension.{edge-record, chord-record, Local, chord-at, edge-at, extension-seen}
 use Rattle.codes.specs.FirstRecord.{first-record, fits-first}
@@ -51,7 +51,7 @@ fits-next d [] e t =
     let g = fits-first d e t in
     mem-eq (g .record-is) (mem-map (λ (c : Cable). first-record d (c .a) (c .b) (c .kind)) (ways-has (g .has)))
 fits-next d (r ∷ rs) e t =
-    let v = rows-invariant r rs (rows-split fresh (r ∷ rs) (e ∷ []) (t .accepted) .0) in
+    let v = rows-invariant r rs (rows-divided fresh (r ∷ rs) (e ∷ []) (t .accepted) .0) in
     let s = extension-seen d (read-rows fresh (r ∷ rs)) v e (fits-extension d r rs e t) in
     local-next d r rs (s .numbering) e (s .local)
 
@@ -91,7 +91,8 @@ module _ (labels : Rec → Rec → Bool) (o : Label-order labels) (ds : List Dra
         → Listed-by labels o (Frequent labels ds s) l γ es (each es λ e. only-if (is-frequent labels ds s (snoc γ e)) (snoc γ e ∷ below e))
     unfolding each concat only-if
     siblings γ n below t [] r = listed-none labels o (Frequent labels ds s) l γ
-    siblings γ n below t (e ∷ es) r = go (is-frequent labels ds s (snoc γ e)) refl (siblings γ n below t es (rises-tail (rec-before-by labels) e es r))
+    siblings γ n below t (e ∷ es) r = go (is-frequent labels ds s (snoc γ e)) refl
+        (siblings γ n below t es (rises-tail (rec-before-by labels) e es r))
       where
         later : List (List Rec)
         later = each es λ e. only-if (is-frequent labels ds s (snoc γ e)) (snoc γ e ∷ below e)

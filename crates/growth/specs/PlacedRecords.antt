@@ -14,10 +14,21 @@ use Rattle.graphs.specs.Map.{image}
 use Rattle.graphs.specs.Cables.{Has, has-flip}
 use Rattle.graphs.specs.Graph.{Pattern}
 use Rattle.graphs.specs.Patterns.{byte-list-at}
-use Rattle.codes.specs.Code.{Rec, Reading, fresh, forward, end, stepped, rows-refusal, read-rows, kinds-before, rec-before-by}
+use Rattle.codes.specs.Code.{
+  Rec,
+  Reading,
+  fresh,
+  forward,
+  end,
+  stepped,
+  rows-refusal,
+  read-rows,
+  kinds-before,
+  rec-before-by,
+}
 use Rattle.codes.specs.Step.{Step, steps-back, steps-forward}
 use Rattle.codes.specs.Reading.{Invariant}
-use Rattle.codes.specs.Rows.{rows-split, rows-invariant}
+use Rattle.codes.specs.ReadRows.{rows-divided, rows-invariant}
 use Rattle.codes.specs.Extension.{Local, chord-at, edge-at, local-step, Seen, extension-seen}
 use Rattle.codes.specs.Greedy.{Fits, fits-extension}
 use Rattle.codes.specs.FirstRecord.{first-record, fits-first}
@@ -105,7 +116,7 @@ module _ {ds : List Drawing} {rank labels : List ℕ} {n : ℕ} (o : Ranks ds ra
       local-placed d m p (r ∷ rs) few (s .numbering) node e (s .local)
     where
       ok : rows-refusal fresh (r ∷ rs) ≡ 0
-      ok = rows-split fresh (r ∷ rs) (e ∷ []) (t .accepted) .0
+      ok = rows-divided fresh (r ∷ rs) (e ∷ []) (t .accepted) .0
 
       s : Seen d (read-rows fresh (r ∷ rs)) e
       s = extension-seen d (read-rows fresh (r ∷ rs)) (rows-invariant r rs ok) e (fits-extension d r rs e t)

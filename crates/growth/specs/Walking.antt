@@ -11,7 +11,7 @@ use Rattle.laws.specs.Rising.{rises-append}
 use Rattle.graphs.specs.Drawing.{Drawing}
 use Rattle.codes.specs.Code.{Rec, rec-before-by, before-by}
 use Rattle.codes.specs.CodeOrder.{Label-order, before-strict, prefix-comes-before, difference-decides}
-use Rattle.growth.specs.Growth.{Goes-on, Listed, Listed-by, listed-none}
+use Rattle.growth.specs.Growth.{Goes-on-from, Listed, Listed-by, listed-none}
 use Rattle.growth.specs.Frequent.{Frequent, frequent-prefix}
 use Rattle.growth.specs.ListedBy.{listed-skip-last, listed-take-last}
 use Rattle.growth.specs.Output.{Done, Ahead}
@@ -47,7 +47,8 @@ module _ (labels : Rec → Rec → Bool) (o : Label-order labels) (ds : List Dra
         apart : (x y : List Rec) → Mem x cs → Mem y more → before-by labels x y ≡ true
         apart x y p q =
             let g = t .sound y q .2 in
-            subst (λ (z : List Rec). before-by labels x z ≡ true) (sym (g .0 .is)) (under x γ (g .0 .e) (g .0 .more) (a .earlier (g .0 .e) (g .1) x p))
+            subst (λ (z : List Rec). before-by labels x z ≡ true) (sym (g .0 .is))
+            (under x γ (g .0 .e) (g .0 .more) (a .earlier (g .0 .e) (g .1) x p))
 
         right : (c : List Rec) → Mem c cs ⊎ Mem c more → Frequent labels ds s c × (length c ≤ l)
         right c (inl m) = a .done .right c m

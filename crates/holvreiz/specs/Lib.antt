@@ -1,9 +1,6 @@
+-- Definitions.
 pub mod Packed
-pub mod PackedLaws
 pub mod Returns
-pub mod ReturnLaws
-pub mod CatalogueNumbers
-pub mod Terms
-pub mod RefusedLaws
-pub mod CodeWays
-pub mod Demands
+-- Laws over them.
+pub mod PackedLaws
+pub mod FaultyDrawings

@@ -13,9 +13,10 @@ use Rattle.coding.specs.LeastSays.{Least-says}
 use Rattle.coding.specs.Comparing.{Compare-says}
 use Rattle.matching.specs.declared.answer.Matched.{Matched}
 use Rattle.matching.specs.declared.answer.Sameness.{Sameness}
-use Rattle.matching.specs.Answers.{match-refusal, match-count, same-refusal, same-value, Match-says, Same-says}
-use Rattle.mining.specs.declared.answer.Catalogued.{Catalogued}
-use Rattle.mining.specs.CatalogueSays.{catalogued-refusal, catalogued-count, Catalogue-says}
+use Rattle.matching.specs.MatchAnswers.{match-refusal, match-count, same-refusal, same-value, Match-says, Same-says}
+use Rattle.records.specs.declared.catalogued.Catalogued.{Catalogued}
+use Rattle.records.specs.Catalogued.{catalogued-refusal, catalogued-count}
+use Rattle.mining.specs.CatalogueSays.{Catalogue-says}
 use Rattle.holvreiz.specs.Packed.{packed, packed-numbers}
 
 pub record Code-returns (drawing : List ℕ) (x : ℕ) (out out-now : List ℕ) : Type 0 where

@@ -1,11 +1,11 @@
 // The catalogue for other languages.
 use crate::number::counted;
 use crate::number::refused;
-use mining::answer::Catalogued;
 use mining::catalogue::write_catalogue;
+use records::catalogued::Catalogued;
 ghost use mathlib.Core.Path.{_≡_};
 ghost use Prim.Native.Nat.{_<_};
-ghost use Rattle.mining.specs.CatalogueSays.{catalogued-refusal, catalogued-count};
+ghost use Rattle.records.specs.Catalogued.{catalogued-refusal, catalogued-count};
 ghost use Rattle.holvreiz.specs.Packed.{packed};
 ghost use Rattle.holvreiz.specs.Returns.{Catalogue-returns};
 

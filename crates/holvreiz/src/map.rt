@@ -6,7 +6,7 @@ use matching::answer::Sameness;
 use matching::map::match_drawing;
 use matching::same::same;
 ghost use mathlib.Core.Path.{_≡_};
-ghost use Rattle.matching.specs.Answers.{match-refusal, match-count, same-refusal, same-value};
+ghost use Rattle.matching.specs.MatchAnswers.{match-refusal, match-count, same-refusal, same-value};
 ghost use Rattle.holvreiz.specs.Packed.{packed};
 ghost use Rattle.holvreiz.specs.Returns.{Match-returns, Same-returns};
 

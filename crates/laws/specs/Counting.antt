@@ -82,7 +82,11 @@ Injective f = (i j : ℕ) → i < length f → j < length f → at f i ≡ at f 
 pub injective-different : (f : List ℕ) → Injective f → Different f
 unfolding Different
 injective-different [] n = tt
-injective-different (x ∷ xs) n = (λ m. head (place 256 m), injective-different xs (λ i j h g e. omega (arith, n (suc i) (suc j) (omega arith) (omega arith) e)))
+injective-different (x ∷ xs) n = (
+  λ m. head (place 256 m),
+  injective-different xs
+      (λ i j h g e. omega (arith, n (suc i) (suc j) (omega arith) (omega arith) e)),
+)
   where
     head : Place 256 xs x → ⊥
     head p = omega (arith, n 0 (suc (p .i)) (omega arith) (omega (arith, p .below)) (sym (p .is)))

@@ -1,3 +1,8 @@
+-- Definitions.
+pub mod Lent
+pub mod Parts
+pub mod PutRecords
+-- Laws over them.
 pub mod Tests
 pub mod Lists
 pub mod Counting
@@ -6,3 +11,7 @@ pub mod Rows
 pub mod Minimum
 pub mod Rising
 pub mod Selections
+pub mod Decides
+pub mod Masks
+pub mod PutRecordLaws
+pub mod PartLaws

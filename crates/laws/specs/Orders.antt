@@ -7,7 +7,19 @@ use Prim.Native.Nat.{ℕ}
 use lib.Dec.{ltb, eqb}
 use borrow.Author.Tests.{ltb-true, eqb-true, lt-ltb, eq-eqb}
 use native.Mathlib.Omega.{arith}
-use Rattle.laws.specs.Tests.{Three, less, same, more, reversed, compare-numbers, or-cases, or-left, or-right, and-split, and-both}
+use Rattle.laws.specs.Tests.{
+  Three,
+  less,
+  same,
+  more,
+  reversed,
+  compare-numbers,
+  or-cases,
+  or-left,
+  or-right,
+  and-split,
+  and-both,
+}
 
 -- AN ORDER with a test of sameness that need not be equality
 pub record Weak-order {A : Type 0} (lt eq : A → A → Bool) : Type 0 where

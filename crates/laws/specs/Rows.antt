@@ -95,13 +95,15 @@ module _ {A : Type 0} where
   -- the records from k on begin with record k
   pub rows-from : (w n k : ℕ) (xs : List A) → rows w (suc n) (drop (w * k) xs) ≡ row w k xs ∷ rows w n (drop (w * suc k) xs)
   unfolding rows row
-  rows-from w n k xs = ap (λ (ys : List A). take w (drop (w * k) xs) ∷ rows w n ys) (drop-drop w (w * k) xs ∙ ap (λ (m : ℕ). drop m xs) (sym (mul-suc w k)))
+  rows-from w n k xs = ap (λ (ys : List A). take w (drop (w * k) xs) ∷ rows w n ys)
+      (drop-drop w (w * k) xs ∙ ap (λ (m : ℕ). drop m xs) (sym (mul-suc w k)))
 
   -- one record more
   pub rows-snoc : (w n : ℕ) (xs : List A) → rows w (suc n) xs ≡ snoc (rows w n xs) (row w n xs)
   unfolding rows
   rows-snoc w zero xs = ap (λ (r : List A). r ∷ []) (sym (row-zero w xs))
-  rows-snoc w (suc n) xs = ap (λ (rs : List (List A)). take w xs ∷ rs) (rows-snoc w n (drop w xs) ∙ ap (snoc (rows w n (drop w xs))) (row-tail w n xs))
+  rows-snoc w (suc n) xs = ap (λ (rs : List (List A)). take w xs ∷ rs)
+      (rows-snoc w n (drop w xs) ∙ ap (snoc (rows w n (drop w xs))) (row-tail w n xs))
 
   -- n records and m more
   pub rows-split : (w n m : ℕ) (xs : List A) → rows w (n + m) xs ≡ rows w n xs ++ rows w m (drop (w * n) xs)
@@ -109,7 +111,8 @@ module _ {A : Type 0} where
   rows-split w zero m xs = rw (mul-zero, zero-add)
   rows-split w (suc n) m xs =
       ap (λ (k : ℕ). rows w k xs) (suc-add n m)
-      ∙ ap (λ (rs : List (List A)). take w xs ∷ rs) (rows-split w n m (drop w xs) ∙ ap (λ (ys : List A). rows w n (drop w xs) ++ rows w m ys) (drop-row w n xs))
+      ∙ ap (λ (rs : List (List A)). take w xs ∷ rs) (rows-split w n m (drop w xs) ∙ ap
+      (λ (ys : List A). rows w n (drop w xs) ++ rows w m ys) (drop-row w n xs))
 
   -- only the first w * n elements count
   pub rows-front : (w n : ℕ) (xs ys : List A) → w * n ≤ length xs → rows w n (xs ++ ys) ≡ rows w n xs
@@ -131,7 +134,8 @@ module _ {A : Type 0} where
   unfolding rows concat
   concat-rows w zero xs = rw mul-zero
   concat-rows w (suc n) xs =
-      ap (λ (ys : List A). take w xs ++ ys) (concat-rows w n (drop w xs)) ∙ sym (take-add w (w * n) xs) ∙ ap (λ (k : ℕ). take k xs) (add-comm w (w * n) ∙ sym (mul-suc w n))
+      ap (λ (ys : List A). take w xs ++ ys) (concat-rows w n (drop w xs)) ∙ sym (take-add w (w * n) xs) ∙ ap (λ (k : ℕ). take k xs)
+      (add-comm w (w * n) ∙ sym (mul-suc w n))
 
   -- the k-th of the records put together is the k-th of them
   pub row-concat : (w : ℕ) (rs : List (List A)) (ys : List A) (k : ℕ) → Sized w rs → k < length rs → row w k (concat rs ++ ys) ≡ getD rs k []

@@ -1,16 +1,7 @@
-pub mod Answers
-pub mod AnswerLaws
-pub mod Promise
+-- Definitions.
+pub mod MatchAnswers
+-- Laws over them.
+pub mod MatchAnswerLaws
+pub mod MatchPromise
 pub mod Outcomes
-pub mod Proved
-pub mod Tells
-pub mod Masks
-pub mod Ways
-pub mod NearLaws
-pub mod WaysLaws
-pub mod LabelCounts
-pub mod Searches
-pub mod Accepted
-pub mod FitLaws
-pub mod SearchLaws
-pub mod Guides
+pub mod MatchProved

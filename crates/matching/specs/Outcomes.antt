@@ -16,15 +16,25 @@ use Rattle.graphs.specs.Map.{Same, maps-into, least-map, is-some, contains, Fou
 use Rattle.graphs.specs.Graph.{Simple}
 use Rattle.graphs.specs.Embeddings.{embedding-from-test}
 use Rattle.graphs.specs.LeastMap.{least-map-found, contains-from-embedding}
-use Rattle.graphs.specs.Containment.{same-is-contained, contained-is-same}
-use Rattle.records.specs.RefusalLaws.{first-of, first-none}
+use Rattle.graphs.specs.Containment.{same-contained, contained-is-same}
+use Rattle.records.specs.Refusals.{first-of}
+use Rattle.records.specs.RefusalLaws.{first-none}
 use Rattle.matching.specs.declared.answer.Matched.{Matched}
 use Rattle.matching.specs.declared.answer.Matched.the-variants.{Map, NotContained}
 use Rattle.matching.specs.declared.answer.Sameness.{Sameness}
 use Rattle.matching.specs.declared.answer.Sameness.the-variants as sameness
-use Rattle.matching.specs.Answers.{match-refusal, in-front, match-number, Map-written, Match-as, Match-says, Same-as, Same-says}
-use Rattle.matching.specs.Accepted.{accepted-simple}
-use Rattle.matching.specs.AnswerLaws.{both-accepted, match-answered}
+use Rattle.matching.specs.MatchAnswers.{
+  match-refusal,
+  match-number,
+  Map-written,
+  Match-as,
+  Match-says,
+  Same-as,
+  Same-says,
+}
+use Rattle.laws.specs.Lent.{in-front}
+use Rattle.graphs.specs.AcceptedDrawing.{accepted-simple}
+use Rattle.matching.specs.MatchAnswerLaws.{both-accepted, match-answered}
 
 -- A CALL THAT IS NOT TURNED BACK: both drawings are accepted, and there is room
 pub record Answered (xs ys : List ℕ) (r : Matched) (o z : List ℕ) : Type 0 where
@@ -156,7 +166,7 @@ module _ (xs ys : List ℕ) (r : Sameness) (ok-x : drawing-refusal xs ≡ 0) (ok
       → (contains (drawing-in xs) (drawing-in ys) ≡ true) × (devices (drawing-in xs) ≡ devices (drawing-in ys))
       × (length (drawing-in xs .cables) ≡ length (drawing-in ys .cables))
   yes-is-contained e =
-      same-is-contained (drawing-in xs) (drawing-in ys) (accepted-simple xs ok-x) (accepted-simple ys ok-y) (same-if-yes e)
+      same-contained (drawing-in xs) (drawing-in ys) (accepted-simple xs ok-x) (accepted-simple ys ok-y) (same-if-yes e)
 
   pub contained-is-yes : contains (drawing-in xs) (drawing-in ys) ≡ true → devices (drawing-in xs) ≡ devices (drawing-in ys)
       → length (drawing-in xs .cables) ≡ length (drawing-in ys .cables) → r ≡ sameness.Yes

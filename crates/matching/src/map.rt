@@ -1,14 +1,15 @@
 // The least map of a pattern into a drawing.
 use crate::answer::Matched;
 use crate::pair::check_both;
-use crate::search::least_map;
+use map_search::search::least_map;
 use records::drawing::Drawing;
 use records::refusal::Checked;
 use records::refusal::Refusal;
 ghost use mathlib.Core.Path.{_≡_};
 ghost use Prim.Native.Nat.{_≤_};
 ghost use lib.ListN.{length, take};
-ghost use Rattle.matching.specs.Answers.{in-front, Match-says};
+ghost use Rattle.laws.specs.Lent.{in-front};
+ghost use Rattle.matching.specs.MatchAnswers.{Match-says};
 
 // Puts the first n bytes of a map in front of the lent bytes.
 fn put_map(map: &[u8; Drawing::MOST_DEVICES], n: usize, output: &mut [u8])

@@ -1,10 +1,10 @@
 // Whether two drawings show one pattern.
 use crate::answer::Sameness;
 use crate::pair::check_both;
-use crate::search::least_map;
+use map_search::search::least_map;
 use records::drawing::Drawing;
 use records::refusal::Checked;
-ghost use Rattle.matching.specs.Answers.{Same-says};
+ghost use Rattle.matching.specs.MatchAnswers.{Same-says};
 
 // Two drawings are the same if the first is contained in the second with as many devices and as many cables.
 pub fn same(first: &[u8], second: &[u8]) -> Sameness

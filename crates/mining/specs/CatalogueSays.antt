@@ -11,27 +11,19 @@ use Rattle.graphs.specs.Survey.{survey, survey-refusal}
 use Rattle.growth.specs.Catalogue.{Entry, Catalogue, all-bytes}
 use Rattle.records.specs.declared.refusal.Refusal.the-variants.{OutputLength}
 use Rattle.records.specs.Refusals.{number-of}
-use Rattle.coding.specs.Answers.{in-front}
-use Rattle.mining.specs.declared.answer.Catalogued.{Catalogued}
-use Rattle.mining.specs.declared.answer.Catalogued.the-variants.{Entries, Refused}
-
--- THE NUMBERS of an answer: its refusal, 0 for none, the drawing at fault, and the count of entries, 0 where it refuses
-abbrev pub catalogued-refusal : Catalogued → surveys.Refusal
-catalogued-refusal (Entries n) = surveys.refusal 0 0
-catalogued-refusal (Refused r d) = surveys.refusal (number-of r) d
-
-abbrev pub catalogued-count : Catalogued → ℕ
-catalogued-count (Entries n) = n
-catalogued-count (Refused r d) = 0
+use Rattle.laws.specs.Lent.{in-front}
+use Rattle.records.specs.declared.catalogued.Catalogued.{Catalogued}
+use Rattle.records.specs.declared.catalogued.Catalogued.the-variants.{Entries, Refused}
+use Rattle.records.specs.Catalogued.{catalogued-refusal}
 
 -- the entries stand at the front of the lent bytes, if they fit; else 15, and every lent byte is zero
-abbrev pub Written : (too-long : Bool) → (es : List Entry) → Catalogued → (out out-now : List ℕ) → Type 0
-Written true es r o z = (r ≡ Refused OutputLength 0) × (z ≡ replicate (length o) 0)
-Written false es r o z = (r ≡ Entries (length es)) × (z ≡ in-front (all-bytes es) o)
+abbrev pub Entries-written : (too-long : Bool) → (es : List Entry) → Catalogued → (out out-now : List ℕ) → Type 0
+Entries-written true es r o z = (r ≡ Refused OutputLength 0) × (z ≡ replicate (length o) 0)
+Entries-written false es r o z = (r ≡ Entries (length es)) × (z ≡ in-front (all-bytes es) o)
 
 -- a refusal of the settings or the survey writes nothing
 abbrev pub Catalogue-as : (number : ℕ) → surveys.Refusal → (ds : List Drawing) (s l : ℕ) → Catalogued → (out out-now : List ℕ) → Type 0
-Catalogue-as zero f ds s l r o z = (es : List Entry) × Catalogue ds s l es × Written (ltb (length o) (42 * length es)) es r o z
+Catalogue-as zero f ds s l r o z = (es : List Entry) × Catalogue ds s l es × Entries-written (ltb (length o) (42 * length es)) es r o z
 Catalogue-as (suc n) f ds s l r o z = (catalogued-refusal r ≡ f) × (z ≡ o)
 
 -- THE OUTCOME: 12, 13, 1, 14, 2 to 8 with the drawing; 15; or the catalogue

@@ -28,19 +28,20 @@ use Rattle.records.specs.declared.survey.SurveyChecked.the-variants as checked
 use Rattle.records.specs.Refusals.{number-positive}
 use Rattle.records.specs.Surveys.{Survey-answer, survey-checked}
 use Rattle.records.specs.declared.refusal.Refusal.the-variants.{OutputLength, Threshold, SizeLimit}
-use Rattle.coding.specs.Answers.{in-front}
-use Rattle.mining.specs.declared.answer.Catalogued.{Catalogued}
-use Rattle.mining.specs.declared.answer.Catalogued.the-variants.{Entries, Refused}
-use Rattle.mining.specs.declared.grow.Growth.{Growth}
-use Rattle.mining.specs.declared.grow.Growth.the-variants.{To, Full}
-use Rattle.mining.specs.declared.grow.Settings.{Settings}
-use Rattle.mining.specs.CatalogueSays.{catalogued-refusal, Written, Catalogue-as, Catalogue-says}
-use Rattle.mining.specs.LabelMarks.{drawings-of, Zeroed}
-use Rattle.mining.specs.DrawingTables.{Tables}
-use Rattle.mining.specs.Tally.{Sized}
-use Rattle.mining.specs.EntryLaws.{entries-sized}
-use Rattle.mining.specs.Growths.{Lists-more, Too-many}
-use Rattle.mining.specs.Mines.{Can-mine, Mined}
+use Rattle.laws.specs.Lent.{in-front}
+use Rattle.records.specs.declared.catalogued.Catalogued.{Catalogued}
+use Rattle.records.specs.declared.catalogued.Catalogued.the-variants.{Entries, Refused}
+use Rattle.growing.specs.declared.grow.Growth.{Growth}
+use Rattle.growing.specs.declared.grow.Growth.the-variants.{To, Full}
+use Rattle.growing.specs.declared.grow.Settings.{Settings}
+use Rattle.records.specs.Catalogued.{catalogued-refusal}
+use Rattle.mining.specs.CatalogueSays.{Entries-written, Catalogue-as, Catalogue-says}
+use Rattle.walks.specs.LabelMarks.{drawings-of, Zeroed}
+use Rattle.walks.specs.DrawingTables.{Tables}
+use Rattle.walks.specs.Tally.{Cells-sized}
+use Rattle.growth.specs.EntryLaws.{entries-sized}
+use Rattle.growing.specs.GrowthOutcomes.{Lists-more, Too-many}
+use Rattle.mining.specs.SurveyMined.{Can-mine, Mined}
 
 -- the settings and the survey are accepted
 pub record Accepted-call (bs : List ℕ) (s l : ℕ) : Type 0 where
@@ -52,7 +53,7 @@ pub record Accepted-call (bs : List ℕ) (s l : ℕ) : Type 0 where
 
 -- the catalogue is written, or 15
 abbrev pub Writes : (bytes : List ℕ) (s l : ℕ) (out : List ℕ) → Catalogued → (out-now : List ℕ) → Type 0
-Writes bs s l o r z = (es : List Entry) × Catalogue (drawings-of bs) s l es × Written (ltb (length o) (42 * length es)) es r o z
+Writes bs s l o r z = (es : List Entry) × Catalogue (drawings-of bs) s l es × Entries-written (ltb (length o) (42 * length es)) es r o z
 
 -- THE TABLES AT HAND
 pub can-mine :
@@ -77,7 +78,7 @@ module _ {bs : List ℕ} {s l : ℕ} (a : Accepted-call bs s l) (n : ℕ) where
   pub writes-all :
       (o z : List ℕ) (k : ℕ) → Mined bs (record { labels = n; threshold = s; limit = l }) o (To k) z → length z ≡ length o
       → Writes bs s l o (Entries k) z
-  writes-all o z k m e = (es, catalogue, subst (λ (t : Bool). Written t es (Entries k) o z) (sym fits) (ap Entries count, bytes))
+  writes-all o z k m e = (es, catalogue, subst (λ (t : Bool). Entries-written t es (Entries k) o z) (sym fits) (ap Entries count, bytes))
     where
       es : List Entry
       es = map (entry-for (drawings-of bs)) (m .more)
@@ -112,7 +113,8 @@ module _ {bs : List ℕ} {s l : ℕ} (a : Accepted-call bs s l) (n : ℕ) where
       let few = done-fewer kinds-before kinds-order (drawings-of bs) s l (m .codes) (x .0) (m .done) (x .1) in (
         x .0,
         x .1,
-        subst (λ (t : Bool). Written t (x .0) (Refused OutputLength 0) o z) (sym (lt-ltb (length o) (42 * length (x .0)) (omega (arith, m .long))))
+        subst (λ (t : Bool). Entries-written t (x .0) (Refused OutputLength 0) o z)
+            (sym (lt-ltb (length o) (42 * length (x .0)) (omega (arith, m .long))))
             (refl, is ∙ ap (λ (k : ℕ). replicate k 0) e),
       )
 

@@ -1,19 +1,21 @@
 // The catalogue of a survey: every pattern that enough drawings contain, with its least code and its support.
-use crate::answer::Catalogued;
-use crate::cells::PLACES;
-use crate::choose::CANDIDATES;
-use crate::entry::clear;
-use crate::grow::Growth;
-use crate::grow::Settings;
-use crate::mark::LABELS;
 use crate::mine::mine;
-use crate::ranks::rank_labels;
-use crate::tables::fill_labels;
+use candidates::choose::CANDIDATES;
+use checks::survey::check_survey;
+use growing::grow::Growth;
+use growing::grow::Settings;
+use marking::cells::PLACES;
+use records::bytes::clear;
+use records::catalogued::Catalogued;
 use records::entry::Entry;
 use records::refusal::Refusal;
 use records::survey::Survey;
 use records::survey::SurveyChecked;
-use records::survey::check_survey;
+use surveys::labels::TABLES;
+use surveys::labels::fill_labels;
+use surveys::ranks::ALPHABET;
+use surveys::ranks::LABELS;
+use surveys::ranks::rank_labels;
 ghost use Prim.Native.Nat.{_<_};
 ghost use Rattle.mining.specs.CatalogueSays.{Catalogue-says};
 ghost use Rattle.mining.specs.WriteLaws.{Accepted-call, Writes};
@@ -23,10 +25,10 @@ fn write_accepted(survey: &[u8], threshold: usize, limit: usize, output: &mut [u
     requires { ⌜ Accepted-call (now survey) threshold limit ⌝ }
     ensures { λ r. ⌜ Writes (now (survey .entry)) threshold limit (now (output .entry)) r (now (output .exit)) ⌝ }
 {
-    let mut labels = [0; 3200];
+    let mut labels = [0; TABLES];
     fill_labels(survey, &mut labels);
     let mut rank = [0; LABELS];
-    let mut alphabet = [0; 1280];
+    let mut alphabet = [0; ALPHABET];
     let n = rank_labels(survey, &mut rank, &mut alphabet);
     let settings = Settings {
         labels: n,

@@ -1,23 +1,25 @@
 // Mining a survey: the patterns kind by kind of device 0, in which order their codes rise.
-use crate::cells::PLACES;
-use crate::choose::CANDIDATES;
-use crate::choose::choose;
-use crate::count::count_firsts;
-use crate::grow::Growth;
-use crate::grow::Settings;
-use crate::grow::walk;
-use crate::kinds::KINDS;
-use crate::kinds::kinds_of;
-use crate::mark::LABELS;
-use coding::reading::Reading;
-ghost use Rattle.mining.specs.Mines.{Can-mine, Mined};
+use candidates::choose::CANDIDATES;
+use candidates::choose::choose;
+use counting::count::count_firsts;
+use growing::grow::Growth;
+use growing::grow::Settings;
+use growing::grow::walk;
+use marking::cells::PLACES;
+use readings::reading::Reading;
+use surveys::kinds::KINDS;
+use surveys::kinds::kinds_of;
+use surveys::labels::TABLES;
+use surveys::ranks::ALPHABET;
+use surveys::ranks::LABELS;
+ghost use Rattle.mining.specs.SurveyMined.{Can-mine, Mined};
 
 // Writes an entry for every pattern that enough drawings contain.
 pub fn mine(
     survey: &[u8],
-    labels: &[u32; 3200],
+    labels: &[u32; TABLES],
     rank: &[u16; LABELS],
-    alphabet: &[u32; 1280],
+    alphabet: &[u32; ALPHABET],
     settings: Settings,
     cells: &mut [u64; PLACES],
     seen: &mut [u16; PLACES],

@@ -1,11 +1,11 @@
+-- Definitions.
 pub mod Texts
+pub mod Writing
+pub mod Says
+-- Laws over them.
 pub mod Examples
 pub mod Numbers
 pub mod TextLaws
-pub mod Writing
 pub mod WritingLaws
-pub mod Says
 pub mod SaysLaws
 pub mod TextSizes
-pub mod SurveyText
-pub mod SurveyTextLaws

@@ -39,29 +39,29 @@ decimal-more n h =
     rw (le-ltb n 10 h) (ap (with-last n) (digits-enough n (suc (n / 10)) (n / 10) (omega arith) (omega arith)))
 
 -- READ BACK: the number that digits stand for, behind those that stand for v
-unfoldable pub value : (v : ℕ) → List ℕ → ℕ
-value v [] = v
-value v (d ∷ ds) = value (10 * v + (d - 48)) ds
+unfoldable pub digits-value : (v : ℕ) → List ℕ → ℕ
+digits-value v [] = v
+digits-value v (d ∷ ds) = digits-value (10 * v + (d - 48)) ds
 
-value-append : (v : ℕ) (xs ys : List ℕ) → value v (xs ++ ys) ≡ value (value v xs) ys
-unfolding value
-value-append v [] ys = refl
-value-append v (x ∷ xs) ys = value-append (10 * v + (x - 48)) xs ys
+digits-value-append : (v : ℕ) (xs ys : List ℕ) → digits-value v (xs ++ ys) ≡ digits-value (digits-value v xs) ys
+unfolding digits-value
+digits-value-append v [] ys = refl
+digits-value-append v (x ∷ xs) ys = digits-value-append (10 * v + (x - 48)) xs ys
 
-digits-value : (k n : ℕ) → n < k → value 0 (digits k n) ≡ n
-unfolding digits value
-digits-value zero n h = absurd (omega arith)
-digits-value (suc k) n h = go (ltb n 10) refl (λ l. digits-value k (n / 10) (omega arith))
+digits-read-back : (k n : ℕ) → n < k → digits-value 0 (digits k n) ≡ n
+unfolding digits digits-value
+digits-read-back zero n h = absurd (omega arith)
+digits-read-back (suc k) n h = go (ltb n 10) refl (λ l. digits-read-back k (n / 10) (omega arith))
   where
-    go : (x : Bool) → ltb n 10 ≡ x → (10 ≤ n → value 0 (digits k (n / 10)) ≡ n / 10)
-        → value 0 (cond x ((48 + n) ∷ []) (with-last n (digits k (n / 10)))) ≡ n
+    go : (x : Bool) → ltb n 10 ≡ x → (10 ≤ n → digits-value 0 (digits k (n / 10)) ≡ n / 10)
+        → digits-value 0 (cond x ((48 + n) ∷ []) (with-last n (digits k (n / 10)))) ≡ n
     go true e r = omega arith
     go false e r =
-        value-append 0 (digits k (n / 10)) ((48 + n % 10) ∷ []) ∙ rw (r (ltb-false n 10 e)) (omega arith)
+        digits-value-append 0 (digits k (n / 10)) ((48 + n % 10) ∷ []) ∙ rw (r (ltb-false n 10 e)) (omega arith)
 
-pub decimal-value : (n : ℕ) → value 0 (decimal n) ≡ n
+pub decimal-value : (n : ℕ) → digits-value 0 (decimal n) ≡ n
 unfolding decimal
-decimal-value n = digits-value (suc n) n (omega arith)
+decimal-value n = digits-read-back (suc n) n (omega arith)
 
 -- HOW MANY
 digits-length : (k n j : ℕ) → n < 10 ^ suc j → length (digits k n) ≤ suc j

@@ -5,8 +5,8 @@ use mathlib.Core.List.{List}
 use Prim.Native.Nat.{ℕ}
 use lib.Dec.{ltb}
 use lib.ListN.{length}
-use Rattle.coding.specs.Answers.{in-front}
-use Rattle.mining.specs.declared.answer.Catalogued.{Catalogued}
+use Rattle.laws.specs.Lent.{in-front}
+use Rattle.records.specs.declared.catalogued.Catalogued.{Catalogued}
 use Rattle.printing.specs.declared.answer.Printed.{Printed}
 use Rattle.printing.specs.declared.answer.Printed.the-variants.{Bytes, TooShort}
 use Rattle.printing.specs.Texts.{text-of}

@@ -1,15 +1,14 @@
 -- From the two turns of making a text to what the call says: the first in no bytes at all, to learn whether there is room,
 -- the second in the lent ones. Assumes nothing.
 use mathlib.Core.Path.{_≡_, refl, sym, ap, _∙_}
-use mathlib.Core.Bool.{Bool, true, false}
+use mathlib.Core.Bool.{false}
 use mathlib.Core.List.{List, _++_}
 use Prim.Native.Nat.{ℕ, _≤_}
-use native.Mathlib.Omega.{arith}
 use lib.Dec.{ltb}
 use lib.ListN.{length}
-use borrow.Author.Tests.{lt-ltb, le-ltb, ltb-false}
+use borrow.Author.Tests.{lt-ltb, le-ltb}
 use Rattle.laws.specs.Lists.{nil-of-length}
-use Rattle.mining.specs.declared.answer.Catalogued.{Catalogued}
+use Rattle.records.specs.declared.catalogued.Catalogued.{Catalogued}
 use Rattle.printing.specs.declared.answer.Printed.{Printed}
 use Rattle.printing.specs.declared.answer.Printed.the-variants.{Bytes, TooShort}
 use Rattle.printing.specs.declared.place.Place.{Place}
@@ -40,16 +39,8 @@ module _ (a : Catalogued) (es out : List ℕ) where
               ∙ laid-in-front (text-of a es) out fits,
         )
 
--- A TEXT THAT FITS is made, and a count stays within the lent bytes
-module _ (text : List ℕ) (r : Printed) (out out-now : List ℕ) where
-  pub made-whole : length text ≤ length out → Made (ltb (length out) (length text)) text r out out-now → Made false text r out out-now
-  made-whole h m = rw (le-ltb (length out) (length text) h) at m
-
-  pub made-within : (n : ℕ) → r ≡ Bytes n → Made (ltb (length out) (length text)) text r out out-now → n ≤ length out
-  made-within n e m = go (ltb (length out) (length text)) refl m
-    where
-      go : (t : Bool) → ltb (length out) (length text) ≡ t → Made t text r out out-now → n ≤ length out
-      go true l (short, kept) = absurd (let z : _≡_ {A = ℕ} 0 1 = cc in omega arith)
-      go false l (bytes, front) =
-          let count : n ≡ length text = cc in
-          omega (arith, ltb-false (length out) (length text) l)
+-- A TEXT THAT FITS is made
+pub made-whole :
+    (text : List ℕ) (r : Printed) (out out-now : List ℕ) → length text ≤ length out
+    → Made (ltb (length out) (length text)) text r out out-now → Made false text r out out-now
+made-whole text r out out-now h m = rw (le-ltb (length out) (length text) h) at m

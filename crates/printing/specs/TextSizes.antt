@@ -5,43 +5,26 @@ use Prim.Native.Nat.{ℕ, zero, suc, _+_, _*_, _/_, _^_, _≤_, _<_, min}
 use native.Mathlib.Nat.{mul-suc}
 use native.Mathlib.Omega.{arith}
 use native.Mathlib.Decide.{decLt}
-use lib.Dec.{leb, lit<}
+use lib.Dec.{leb}
 use lib.ListN.{length, getD, take, drop, length-append, length-take, List·getD-eq-default}
 use lib.Seq.{getD-take, getD-drop}
 use Rattle.laws.specs.Lists.{concat}
 use Rattle.laws.specs.Rows.{rows}
 use Rattle.codes.specs.Code.{rec-in, recs-in}
 use Rattle.records.specs.declared.refusal.Refusal.{Refusal}
-use Rattle.records.specs.declared.refusal.Refusal.the-variants.{
-  DrawingLength,
-  DeviceCount,
-  CableCount,
-  CableEnd,
-  CableLoop,
-  CablePair,
-  UnusedByte,
-  NotConnected,
-  CodeLength,
-  Step,
-  Kind,
-  Threshold,
-  SizeLimit,
-  SurveyDrawings,
-  OutputLength,
-}
-use Rattle.records.specs.Refusals.{number-of}
-use Rattle.mining.specs.declared.answer.Catalogued.{Catalogued}
-use Rattle.mining.specs.declared.answer.Catalogued.the-variants.{Entries, Refused}
+use Rattle.records.specs.Refusals.{number-of, number-small}
+use Rattle.records.specs.declared.catalogued.Catalogued.{Catalogued}
+use Rattle.records.specs.declared.catalogued.Catalogued.the-variants.{Entries, Refused}
 use Rattle.printing.specs.Texts.{
   decimal,
-  drawing,
+  drawing-word,
   record-text,
   entry-text,
   catalogue-text,
   drawing-text,
   refusal-text,
-  entry-in,
-  entries-in,
+  entry-shown,
+  entries-shown,
   text-of,
 }
 use Rattle.printing.specs.TextLaws.{entries-count}
@@ -97,8 +80,8 @@ record-size bs h =
     ))
 
 -- AN ENTRY
-entry-size : (bs : List ℕ) → Bytes-in bs → length (entry-text (entry-in bs)) ≤ 164
-unfolding entry-text entry-in recs-in
+entry-size : (bs : List ℕ) → Bytes-in bs → length (entry-text (entry-shown bs)) ≤ 164
+unfolding entry-text entry-shown recs-in
 entry-size bs h =
     simp length-append (omega (
       arith,
@@ -109,44 +92,29 @@ entry-size bs h =
 -- A CATALOGUE, whose count is a number of the machine's
 catalogue-size :
     (n : ℕ) (bs : List ℕ) → n < 10 ^ 20 → Bytes-in bs
-    → length (catalogue-text (entries-in n bs)) ≤ 164 * (length bs / 42) + 40
+    → length (catalogue-text (entries-shown n bs)) ≤ 164 * (length bs / 42) + 40
 unfolding catalogue-text
 catalogue-size n bs g h =
     simp length-append (rw (entries-count (min n (length bs / 42)) bs) (omega (
       arith,
       decimal-length (min n (length bs / 42)) 19 (omega arith),
-      rows-size 42 164 entry-in entry-text entry-size (min n (length bs / 42)) bs h,
+      rows-size 42 164 entry-shown entry-text entry-size (min n (length bs / 42)) bs h,
     )))
 
 -- A REFUSAL
-number-low : (r : Refusal) → number-of r < 100
-number-low DrawingLength = lit< tt
-number-low DeviceCount = lit< tt
-number-low CableCount = lit< tt
-number-low CableEnd = lit< tt
-number-low CableLoop = lit< tt
-number-low CablePair = lit< tt
-number-low UnusedByte = lit< tt
-number-low NotConnected = lit< tt
-number-low CodeLength = lit< tt
-number-low (Step k) = lit< tt
-number-low (Kind k) = lit< tt
-number-low Threshold = lit< tt
-number-low SizeLimit = lit< tt
-number-low SurveyDrawings = lit< tt
-number-low OutputLength = lit< tt
 
 drawing-size : (n d : ℕ) → d < 10 ^ 20 → length (drawing-text n d) ≤ 29
 drawing-size n d h = go (leb 2 n && leb n 8)
   where
-    go : (x : Bool) → length (cond x (drawing ++ decimal d) []) ≤ 29
+    go : (x : Bool) → length (cond x (drawing-word ++ decimal d) []) ≤ 29
     go true = omega (arith, decimal-length d 19 h)
     go false = omega arith
 
 refusal-size : (r : Refusal) (d : ℕ) → d < 10 ^ 20 → length (refusal-text (number-of r) d) ≤ 40
 unfolding refusal-text
 refusal-size r d h =
-    simp length-append (omega (arith, decimal-length (number-of r) 1 (number-low r), drawing-size (number-of r) d h))
+    let two-digits : number-of r < 10 ^ 2 = omega (arith, number-small r) in
+    simp length-append (omega (arith, decimal-length (number-of r) 1 two-digits, drawing-size (number-of r) d h))
 
 -- AN ANSWER whose count and drawing are numbers of the machine's
 abbrev pub Machine-numbers : Catalogued → Type 0

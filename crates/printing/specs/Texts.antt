@@ -10,9 +10,9 @@ use Rattle.laws.specs.Rows.{rows}
 use Rattle.codes.specs.Code.{Rec, recs-in}
 use Rattle.growth.specs.Catalogue.{Entry, entry}
 use Rattle.records.specs.Refusals.{number-of}
-use Rattle.mining.specs.CatalogueSays.{catalogued-count}
-use Rattle.mining.specs.declared.answer.Catalogued.{Catalogued}
-use Rattle.mining.specs.declared.answer.Catalogued.the-variants.{Entries, Refused}
+use Rattle.records.specs.Catalogued.{catalogued-count}
+use Rattle.records.specs.declared.catalogued.Catalogued.{Catalogued}
+use Rattle.records.specs.declared.catalogued.Catalogued.the-variants.{Entries, Refused}
 
 -- NUMBERS in decimal: ASCII digits without leading zeros, of which n has at most n + 1
 unfoldable pub digits : (most n : ℕ) → List ℕ
@@ -23,20 +23,20 @@ unfoldable pub decimal : ℕ → List ℕ
 decimal n = digits (suc n) n
 
 -- THE WORDS, with the blanks around them
-abbrev pub newline : List ℕ
-newline = 10 ∷ []
+abbrev pub line-end : List ℕ
+line-end = 10 ∷ []
 
 -- " patterns"
-abbrev pub patterns : List ℕ
-patterns = 32 ∷ 112 ∷ 97 ∷ 116 ∷ 116 ∷ 101 ∷ 114 ∷ 110 ∷ 115 ∷ []
+abbrev pub patterns-word : List ℕ
+patterns-word = 32 ∷ 112 ∷ 97 ∷ 116 ∷ 116 ∷ 101 ∷ 114 ∷ 110 ∷ 115 ∷ []
 
 -- "refused "
-abbrev pub refused : List ℕ
-refused = 114 ∷ 101 ∷ 102 ∷ 117 ∷ 115 ∷ 101 ∷ 100 ∷ 32 ∷ []
+abbrev pub refused-word : List ℕ
+refused-word = 114 ∷ 101 ∷ 102 ∷ 117 ∷ 115 ∷ 101 ∷ 100 ∷ 32 ∷ []
 
 -- " drawing "
-abbrev pub drawing : List ℕ
-drawing = 32 ∷ 100 ∷ 114 ∷ 97 ∷ 119 ∷ 105 ∷ 110 ∷ 103 ∷ 32 ∷ []
+abbrev pub drawing-word : List ℕ
+drawing-word = 32 ∷ 100 ∷ 114 ∷ 97 ∷ 119 ∷ 105 ∷ 110 ∷ 103 ∷ 32 ∷ []
 
 -- each record as i-j:kind.cable.kind, all decimal
 unfoldable pub record-text : Rec → List ℕ
@@ -47,38 +47,39 @@ abbrev pub records-text : List Rec → List ℕ
 records-text rs = concat (map (λ r. 32 ∷ record-text r) rs)
 
 unfoldable pub entry-text : Entry → List ℕ
-entry-text e = decimal (e .support) ++ records-text (e .code) ++ newline
+entry-text e = decimal (e .support) ++ records-text (e .code) ++ line-end
 
 abbrev pub lines : List Entry → List ℕ
 lines es = concat (map entry-text es)
 
 -- last line: number of entries and the word patterns
 unfoldable pub catalogue-text : List Entry → List ℕ
-catalogue-text es = lines es ++ decimal (length es) ++ (patterns ++ newline)
+catalogue-text es = lines es ++ decimal (length es) ++ (patterns-word ++ line-end)
 
 -- a refusal prints one line only, the word refused and its number, for 2 to 8 also the word drawing and the drawing
 abbrev pub drawing-text : (number drawing : ℕ) → List ℕ
-drawing-text n d = cond (leb 2 n && leb n 8) (drawing ++ decimal d) []
+drawing-text n d = cond (leb 2 n && leb n 8) (drawing-word ++ decimal d) []
 
 unfoldable pub refusal-text : (number drawing : ℕ) → List ℕ
-refusal-text n d = refused ++ decimal n ++ drawing-text n d ++ newline
+refusal-text n d = refused-word ++ decimal n ++ drawing-text n d ++ line-end
 
 -- THE TEXT OF AN ANSWER
 abbrev pub answer-text : Catalogued → (entries : List Entry) → List ℕ
 answer-text (Entries n) es = catalogue-text es
 answer-text (Refused r d) es = refusal-text (number-of r) d
 
--- ENTRIES IN BYTES: the 42 bytes of an entry; a count of cables above 8 stands for 8
-unfoldable pub entry-in : List ℕ → Entry
-entry-in bs = entry (getD bs 1 0) (recs-in (min (getD bs 0 0) 8) (drop 2 bs))
+-- ENTRIES SHOWN: what is printed of the 42 bytes of an entry. They have no more than 8 records, so a count of cables above 8
+-- stands for 8: any bytes have a text. An entry of at most 8 cables is shown as it stands there (`shown-whole`)
+unfoldable pub entry-shown : List ℕ → Entry
+entry-shown bs = entry (getD bs 1 0) (recs-in (min (getD bs 0 0) 8) (drop 2 bs))
 
 abbrev pub first-entries : (n : ℕ) → List ℕ → List Entry
-first-entries n bs = map entry-in (rows 42 n bs)
+first-entries n bs = map entry-shown (rows 42 n bs)
 
 -- n entries, or as many as the bytes have room for
-abbrev pub entries-in : (n : ℕ) → List ℕ → List Entry
-entries-in n bs = first-entries (min n (length bs / 42)) bs
+abbrev pub entries-shown : (n : ℕ) → List ℕ → List Entry
+entries-shown n bs = first-entries (min n (length bs / 42)) bs
 
 -- the text of an answer whose entries stand in these bytes
 abbrev pub text-of : Catalogued → (bytes : List ℕ) → List ℕ
-text-of a bs = answer-text a (entries-in (catalogued-count a) bs)
+text-of a bs = answer-text a (entries-shown (catalogued-count a) bs)

@@ -12,7 +12,7 @@ use lib.Dec.{ltb}
 use lib.ListN.{length, drop, set}
 use lib.Seq.{sets, sets-eq, set-out}
 use borrow.Author.Tests.{lt-ltb, le-ltb, ltb-true}
-use Rattle.coding.specs.Answers.{in-front}
+use Rattle.laws.specs.Lent.{in-front}
 use Rattle.printing.specs.declared.place.Place.{Place}
 use Rattle.printing.specs.declared.place.Place.the-variants.{At, Past}
 use Rattle.printing.specs.Writing.{next-place, put-at, place-behind, laid, Wrote}

@@ -6,14 +6,14 @@ use crate::place::Place;
 use crate::place::put_byte;
 use crate::place::put_number;
 use crate::place::put_word;
-use mining::answer::Catalogued;
+use records::catalogued::Catalogued;
 use records::entry::Entry;
 use records::refusal::Refusal;
 use records::refusal::number;
 ghost use Prim.Native.Nat.{_*_, _≤_};
 ghost use lib.ListN.{length};
 ghost use Rattle.records.specs.Refusals.{number-of};
-ghost use Rattle.printing.specs.Texts.{lines, first-entries, entries-in, catalogue-text, drawing-text, refusal-text, text-of};
+ghost use Rattle.printing.specs.Texts.{lines, first-entries, entries-shown, catalogue-text, drawing-text, refusal-text, text-of};
 ghost use Rattle.printing.specs.Writing.{Wrote};
 ghost use Rattle.printing.specs.Says.{Text-says};
 
@@ -33,7 +33,7 @@ fn put_lines(text: &mut [u8], place: Place, entries: &[u8], n: usize) -> Place
 
 // The catalogue of n entries, or of as many as are lent.
 fn put_catalogue(text: &mut [u8], place: Place, entries: &[u8], n: usize) -> Place
-    ensures { λ r. ⌜ Wrote (now (text .entry)) place (catalogue-text (entries-in n (now (entries .entry)))) r (now (text .exit)) ⌝ }
+    ensures { λ r. ⌜ Wrote (now (text .entry)) place (catalogue-text (entries-shown n (now (entries .entry)))) r (now (text .exit)) ⌝ }
 {
     let n = least(n, entries.len() / Entry::BYTES);
     let next = put_lines(text, place, entries, n);

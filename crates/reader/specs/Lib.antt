@@ -1,2 +1,4 @@
+-- Definitions.
 pub mod Readers
+-- Laws over them.
 pub mod ReaderLaws

@@ -8,10 +8,10 @@ use lib.ListN.{length, getD}
 use denote.Ref.{RefT, now, ptr}
 use Rattle.laws.specs.Rows.{row, row-length, rows-at}
 use Rattle.graphs.specs.Survey.{length-refusal, records-in}
-use Rattle.records.specs.Surveys.{drawings-in}
+use Rattle.graphs.specs.Survey.{drawing-count}
 use Rattle.reader.specs.declared.reader.Opened.{Opened}
 use Rattle.reader.specs.declared.reader.Fetched.{Fetched}
-use Rattle.reader.specs.Readers.{further, fetch-refusal, reader-drawings, Opens, Fetches, Gives}
+use Rattle.reader.specs.Readers.{further, fetch-refusal, reader-drawings, Opens, Fetches, Fetch-gives}
 
 -- THE REFUSAL of a fetch
 pub fetch-accepted : (n d : ℕ) → d < n → fetch-refusal n d ≡ 0
@@ -23,41 +23,41 @@ unfolding fetch-refusal
 fetch-refused n d h = simp (le-ltb _ _ h)
 
 -- A DRAWING's bytes: 72, a record of the survey
-pub drawing-length : (bs : List ℕ) (d : ℕ) → d < drawings-in bs → length (row 72 d bs) ≡ 72
+pub drawing-length : (bs : List ℕ) (d : ℕ) → d < drawing-count bs → length (row 72 d bs) ≡ 72
 drawing-length bs d h = row-length 72 d bs (omega arith)
 
-pub drawing-record : (bs : List ℕ) (d : ℕ) → d < drawings-in bs → row 72 d bs ≡ getD (records-in bs) d []
+pub drawing-record : (bs : List ℕ) (d : ℕ) → d < drawing-count bs → row 72 d bs ≡ getD (records-in bs) d []
 unfolding records-in
-drawing-record bs d h = sym (rows-at 72 (drawings-in bs) d bs h)
+drawing-record bs d h = sym (rows-at 72 (drawing-count bs) d bs h)
 
 module _ {survey : RefT (List ℕ)} {o : Opened} (opens : Opens survey o) where
   -- THE DRAWINGS of the reader
-  pub accepted-drawings : length-refusal (now survey) ≡ 0 → reader-drawings (o .reader) ≡ drawings-in (now survey)
-  accepted-drawings a = ap (λ (x : RefT (List ℕ)). drawings-in (now x)) (opens .reader .accepted a)
+  pub accepted-drawings : length-refusal (now survey) ≡ 0 → reader-drawings (o .reader) ≡ drawing-count (now survey)
+  accepted-drawings a = ap (λ (x : RefT (List ℕ)). drawing-count (now x)) (opens .reader .accepted a)
 
   pub refused-drawings : 0 < length-refusal (now survey) → reader-drawings (o .reader) ≡ 0
-  refused-drawings h = ap drawings-in (opens .reader .refused h)
+  refused-drawings h = ap drawing-count (opens .reader .refused h)
 
   -- A FETCH from it
   module _ {d : ℕ} {r : Fetched} (fetches : Fetches (o .reader) d r) where
-    none : reader-drawings (o .reader) ≤ d → Gives r 14 []
+    none : reader-drawings (o .reader) ≤ d → Fetch-gives r 14 []
     none h = record {
       refusal = fetches .refusal ∙ fetch-refused _ d h;
       part = fetches .part .none h;
     }
 
-    pub refused-fetch : 0 < length-refusal (now survey) → Gives r 14 []
+    pub refused-fetch : 0 < length-refusal (now survey) → Fetch-gives r 14 []
     refused-fetch h = none (omega (arith, refused-drawings h))
 
     module _ (a : length-refusal (now survey) ≡ 0) where
-      pub fetch-past : drawings-in (now survey) ≤ d → Gives r 14 []
+      pub fetch-past : drawing-count (now survey) ≤ d → Fetch-gives r 14 []
       fetch-past h = none (omega (arith, accepted-drawings a))
 
-      module _ (h : d < drawings-in (now survey)) where
+      module _ (h : d < drawing-count (now survey)) where
         below : d < reader-drawings (o .reader)
         below = omega (arith, accepted-drawings a)
 
-        pub fetched-drawing : Gives r 0 (row 72 d (now survey))
+        pub fetched-drawing : Fetch-gives r 0 (row 72 d (now survey))
         fetched-drawing = record {
           refusal = fetches .refusal ∙ fetch-accepted _ d below;
           part = fetches .part .bytes below ∙ ap (λ (x : RefT (List ℕ)). row 72 d (now x)) (opens .reader .accepted a);

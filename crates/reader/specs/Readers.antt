@@ -9,7 +9,7 @@ use denote.Ref.{RefT, now, ptr}
 use Rattle.laws.specs.Rows.{row}
 use Rattle.graphs.specs.Survey.{length-refusal}
 use Rattle.records.specs.Refusals.{checked-number}
-use Rattle.records.specs.Surveys.{drawings-in}
+use Rattle.graphs.specs.Survey.{drawing-count}
 use Rattle.reader.specs.declared.reader.Reader.{Reader}
 use Rattle.reader.specs.declared.reader.Opened.{Opened}
 use Rattle.reader.specs.declared.reader.Fetched.{Fetched}
@@ -25,9 +25,9 @@ pub record Readable (survey part : RefT (List ℕ)) : Type 0 where
 
 -- drawing d as those very 72 bytes of the survey, and an empty part where d is not below the number of drawings
 pub record Drawing-at (survey : RefT (List ℕ)) (d : ℕ) (part : RefT (List ℕ)) : Type 0 where
-  pub bytes : d < drawings-in (now survey) → now part ≡ row 72 d (now survey)
-  pub place : d < drawings-in (now survey) → ptr part ≡ further (72 * d) (ptr survey)
-  pub none : drawings-in (now survey) ≤ d → now part ≡ []
+  pub bytes : d < drawing-count (now survey) → now part ≡ row 72 d (now survey)
+  pub place : d < drawing-count (now survey) → ptr part ≡ further (72 * d) (ptr survey)
+  pub none : drawing-count (now survey) ≤ d → now part ≡ []
 
 -- 14 a fetch with d not below the number of drawings
 unfoldable pub fetch-refusal : (drawings d : ℕ) → ℕ
@@ -35,7 +35,7 @@ fetch-refusal n d = cond (ltb d n) 0 14
 
 -- the number of drawings that a reader has
 abbrev pub reader-drawings : Reader → ℕ
-reader-drawings r = drawings-in (now (r .bytes))
+reader-drawings r = drawing-count (now (r .bytes))
 
 -- OPENING checks the length place only; where that refuses, the reader has no drawings
 pub record Opens (survey : RefT (List ℕ)) (r : Opened) : Type 0 where
@@ -48,6 +48,6 @@ pub record Fetches (reader : Reader) (d : ℕ) (r : Fetched) : Type 0 where
   pub part : Drawing-at (reader .bytes) d (r .part)
 
 -- the same by its two answers: the number, 0 where it is accepted, and the bytes of the part
-pub record Gives (r : Fetched) (number : ℕ) (bytes : List ℕ) : Type 0 where
+pub record Fetch-gives (r : Fetched) (number : ℕ) (bytes : List ℕ) : Type 0 where
   pub refusal : checked-number (r .checked) ≡ number
   pub part : now (r .part) ≡ bytes

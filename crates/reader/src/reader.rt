@@ -3,8 +3,8 @@
 use crate::part::check_fetch;
 use crate::part::drawing_part;
 use crate::part::readable_part;
+use checks::survey::check_length;
 use records::refusal::Checked;
-use records::survey::check_length;
 ghost use Rattle.reader.specs.Readers.{Opens, Fetches};
 
 // The bytes of the survey, lent; none where opening was refused.

@@ -15,8 +15,9 @@ use Rattle.laws.specs.Lists.{snoc, map-append}
 use Rattle.laws.specs.Rows.{row, rows, rows-length, rows-at, rows-snoc, row-at}
 use Rattle.laws.specs.Rows.{left-start, left-next, left-end}
 use Rattle.graphs.specs.Drawing.{Cable, cable-in, cables-in, joins, joined-by, cable-refusal}
-use Rattle.records.specs.RefusalLaws.{first-of, first-some, first-none, first-test}
-use Rattle.records.specs.Cables.{cable-of, cables-before, cables-from, cable-fault, fault-at}
+use Rattle.records.specs.Refusals.{first-of}
+use Rattle.records.specs.RefusalLaws.{first-some, first-none, first-test}
+use Rattle.records.specs.DrawingCables.{cable-at, cables-before, cables-from, cable-fault, fault-at}
 
 -- byte i of cable c
 cable-byte : (bs : List ℕ) (c i : ℕ) → i < 3 → getD (row 3 c (drop 12 bs)) i 0 ≡ getD bs (12 + 3 * c + i) 0
@@ -26,13 +27,13 @@ cable-byte bs c i h =
 
 -- THE BYTES of cable c
 pub cable-read : (bs : List ℕ) (c : ℕ)
-    → record { a = getD bs (12 + 3 * c) 0; b = getD bs (12 + 3 * c + 1) 0; kind = getD bs (12 + 3 * c + 2) 0 } ≡ cable-of bs c
-unfolding cable-of cable-in
+    → record { a = getD bs (12 + 3 * c) 0; b = getD bs (12 + 3 * c + 1) 0; kind = getD bs (12 + 3 * c + 2) 0 } ≡ cable-at bs c
+unfolding cable-at cable-in
 cable-read bs c =
     rw (cable-byte bs c 0 (omega arith), cable-byte bs c 1 (omega arith), cable-byte bs c 2 (omega arith), add-zero (12 + 3 * c))
 
 -- past the end of the bytes
-pub cable-past : (bs : List ℕ) (c : ℕ) → length bs / 3 ≤ c → record { a = 0; b = 0; kind = 0 } ≡ cable-of bs c
+pub cable-past : (bs : List ℕ) (c : ℕ) → length bs / 3 ≤ c → record { a = 0; b = 0; kind = 0 } ≡ cable-at bs c
 cable-past bs c h =
     let first : getD bs (12 + 3 * c) 0 ≡ 0 = gone (12 + 3 * c) (omega arith) in
     let second : getD bs (12 + 3 * c + 1) 0 ≡ 0 = gone (12 + 3 * c + 1) (omega arith) in
@@ -48,8 +49,8 @@ module _ (m : ℕ) (bs : List ℕ) where
   unfolding cables-from cables-in
   from-start = ap (map cable-in) (left-start 3 m (drop 12 bs))
 
-  pub from-next : (c : ℕ) → c < m → cables-from m c bs ≡ cable-of bs c ∷ cables-from m (c + 1) bs
-  unfolding cables-from cable-of
+  pub from-next : (c : ℕ) → c < m → cables-from m c bs ≡ cable-at bs c ∷ cables-from m (c + 1) bs
+  unfolding cables-from cable-at
   from-next c h = ap (map cable-in) (left-next 3 m (drop 12 bs) c h)
 
   pub from-end : (c : ℕ) → m ≤ c → cables-from m c bs ≡ []
@@ -61,22 +62,22 @@ pub before-length : (m : ℕ) (bs : List ℕ) → length (cables-before m bs) �
 unfolding cables-in
 before-length m bs = length-map (rows 3 m (drop 12 bs)) cable-in ∙ rows-length 3 m (drop 12 bs)
 
-pub before-at : (m : ℕ) (bs : List ℕ) (c : ℕ) → c < m → getD (cables-before m bs) c (cable-in []) ≡ cable-of bs c
-unfolding cables-in cable-of
+pub before-at : (m : ℕ) (bs : List ℕ) (c : ℕ) → c < m → getD (cables-before m bs) c (cable-in []) ≡ cable-at bs c
+unfolding cables-in cable-at
 before-at m bs c h = List·getD-map cable-in (rows 3 m (drop 12 bs)) c [] ∙ ap cable-in (rows-at 3 m c (drop 12 bs) h)
 
 -- and one more
-pub before-next : (c : ℕ) (bs : List ℕ) → cables-before (c + 1) bs ≡ snoc (cables-before c bs) (cable-of bs c)
-unfolding cables-in cable-of
+pub before-next : (c : ℕ) (bs : List ℕ) → cables-before (c + 1) bs ≡ snoc (cables-before c bs) (cable-at bs c)
+unfolding cables-in cable-at
 before-next c bs = rw (add-one, rows-snoc) (map-append cable-in (rows 3 c (drop 12 bs)) (row 3 c (drop 12 bs) ∷ []))
 
 -- A PAIR JOINED by one of the cables from k on
 module _ (u v m k : ℕ) (bs : List ℕ) where
-  pub joined-here : k < m → joins u v (cable-of bs k) ≡ true → joined-by u v (cables-from m k bs) ≡ true
+  pub joined-here : k < m → joins u v (cable-at bs k) ≡ true → joined-by u v (cables-from m k bs) ≡ true
   unfolding joined-by
   joined-here h e = rw (from-next m bs k h) (simp e)
 
-  pub joined-later : k < m → joins u v (cable-of bs k) ≡ false
+  pub joined-later : k < m → joins u v (cable-at bs k) ≡ false
       → joined-by u v (cables-from m k bs) ≡ joined-by u v (cables-from m (k + 1) bs)
   unfolding joined-by
   joined-later h e = rw (from-next m bs k h) (simp e)
@@ -158,11 +159,11 @@ module _ (n : ℕ) where
   sound-at es (c ∷ cs) z e (suc k) h = sound-at (snoc es c) cs z (sound-split es cs c e .2) k (le-of-suc-le-suc h)
 
   module _ (m : ℕ) (bs : List ℕ) (sound : cable-refusal n [] (cables-before m bs) ≡ 0) (c : ℕ) (h : c < m) where
-    low : (cable-of bs c .a < n) × (cable-of bs c .b < n)
+    low : (cable-at bs c .a < n) × (cable-at bs c .b < n)
     low = rw (before-at m bs c h) at (sound-at [] (cables-before m bs) (cable-in []) sound c (rw (before-length m bs) h))
 
-    pub sound-first : cable-of bs c .a < n
+    pub sound-first : cable-at bs c .a < n
     sound-first = low .0
 
-    pub sound-second : cable-of bs c .b < n
+    pub sound-second : cable-at bs c .b < n
     sound-second = low .1

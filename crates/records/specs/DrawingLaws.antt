@@ -11,9 +11,10 @@ use lib.Seq.{take-all, length-take-le}
 use Rattle.laws.specs.Tests.{and-split, passes}
 use Rattle.graphs.specs.Drawing.{devices, drawing-in, cable-refusal, all-zero, unused-zero, connected, drawing-refusal}
 use Rattle.records.specs.declared.drawing.Drawing.{Drawing}
-use Rattle.records.specs.Drawings.{counts-in, counts-refusal, rest-refusal, Counted}
-use Rattle.records.specs.RefusalLaws.{first-of, first-some, first-none, first-not, first-test}
-use Rattle.records.specs.Cables.{cables-before}
+use Rattle.records.specs.Drawings.{counts-in, counts-refusal, rest-refusal, Counts-within}
+use Rattle.records.specs.Refusals.{first-of}
+use Rattle.records.specs.RefusalLaws.{first-some, first-none, first-not, first-test}
+use Rattle.records.specs.DrawingCables.{cables-before}
 
 -- COUNTS within the limits, or not
 module _ (d : Drawing) where
@@ -48,7 +49,7 @@ module _ (d : Drawing) where
       let n = passes (leb 2 (d .devices) && leb (d .devices) 10) 2 _ (λ q. omega arith) e in
       (n .0, passes (leb 1 (d .cables) && leb (d .cables) 20) 3 0 (λ q. omega arith) (n .1) .0)
 
-  pub counts-known : (bs : List ℕ) → length bs ≡ 72 → d ≡ counts-in bs → counts-refusal d ≡ 0 → Counted bs d
+  pub counts-known : (bs : List ℕ) → length bs ≡ 72 → d ≡ counts-in bs → counts-refusal d ≡ 0 → Counts-within bs d
   counts-known bs whole is e =
       record {
         whole = whole;
@@ -57,7 +58,7 @@ module _ (d : Drawing) where
         cables-most = leb-true (d .cables) 20 (and-split (leb 1 (d .cables)) (leb (d .cables) 20) (fine-tests e .1) .1);
       }
 
-module _ (bs : List ℕ) (d : Drawing) (known : Counted bs d) where
+module _ (bs : List ℕ) (d : Drawing) (known : Counts-within bs d) where
   devices-is : getD bs 0 0 ≡ d .devices
   devices-is = ap (λ (x : Drawing). x .devices) (sym (known .counts))
 
@@ -111,9 +112,9 @@ module _ (bs : List ℕ) where
 
 -- PLACE BY PLACE
 module _ (bs : List ℕ) where
-  pub length-refused : (length bs ≡ 72 → ⊥) → drawing-refusal bs ≡ 1
+  pub size-refused : (length bs ≡ 72 → ⊥) → drawing-refusal bs ≡ 1
   unfolding drawing-refusal
-  length-refused h = simp (ne-eqb _ _ h)
+  size-refused h = simp (ne-eqb _ _ h)
 
 module _ (bs : List ℕ) (d : Drawing) (whole : length bs ≡ 72) (is : d ≡ counts-in bs) where
   abbrev of-cables : ℕ

@@ -22,7 +22,7 @@ unfoldable pub rest-refusal : List ℕ → ℕ
 rest-refusal bs = cond (not (unused-zero bs)) 7 (cond (connected (drawing-in bs)) 0 8)
 
 -- a record of the right length, with its counts, which are within the limits
-pub record Counted (bs : List ℕ) (d : Drawing) : Type 0 where
+pub record Counts-within (bs : List ℕ) (d : Drawing) : Type 0 where
   pub whole : length bs ≡ 72
   pub counts : d ≡ counts-in bs
   pub devices-most : d .devices ≤ 10

@@ -1,12 +1,12 @@
-pub mod Refusals
+-- Definitions.
 pub mod Drawings
-pub mod Cables
-pub mod Reached
+pub mod DrawingCables
 pub mod Surveys
 pub mod Codes
+pub mod Catalogued
+-- Laws over them.
+pub mod Refusals
 pub mod RefusalLaws
 pub mod ByteLaws
 pub mod CableLaws
 pub mod DrawingLaws
-pub mod ReachedLaws
-pub mod SurveyLaws

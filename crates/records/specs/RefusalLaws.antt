@@ -8,7 +8,7 @@ use lib.Dec.{eqb}
 use Rattle.records.specs.declared.refusal.Refusal.{Refusal}
 use Rattle.records.specs.declared.refusal.Checked.{Checked}
 use Rattle.records.specs.declared.refusal.Checked.the-variants.{Accepted, Refused}
-use Rattle.records.specs.Refusals.{number-of, checked-number, number-positive}
+use Rattle.records.specs.Refusals.{number-of, checked-number, number-positive, first-of}
 
 -- WHAT A CHECK'S ANSWER TELLS of the number that it stands for
 module _ {c : Checked} {n : ℕ} (told : checked-number c ≡ n) where
@@ -21,10 +21,7 @@ module _ {c : Checked} {n : ℕ} (told : checked-number c ≡ n) where
   pub accepted-zero : c ≡ Accepted → n ≡ 0
   accepted-zero e = sym told ∙ ap checked-number e
 
--- THE FIRST THAT APPLIES of two numbers, where 0 is none
-unfoldable pub first-of : ℕ → ℕ → ℕ
-first-of a b = cond (eqb a 0) b a
-
+-- THE FIRST THAT APPLIES of two numbers
 pub first-some : (a b : ℕ) → 0 < a → first-of a b ≡ a
 unfolding first-of
 first-some a b h = let d : a ≡ 0 → ⊥ = λ e. omega arith in simp (ne-eqb _ _ d)

@@ -1,6 +1,7 @@
 -- The paper's number of each refusal, and of a check's answer. Assumes nothing.
-use Prim.Native.Nat.{ℕ, _<_}
-use lib.Dec.{lit<}
+use mathlib.Core.Bool.{cond}
+use Prim.Native.Nat.{ℕ, _≤_, _<_}
+use lib.Dec.{eqb, lit<, lit≤}
 use Rattle.records.specs.declared.refusal.Refusal.{Refusal}
 use Rattle.records.specs.declared.refusal.Refusal.the-variants.{
   DrawingLength,
@@ -16,7 +17,7 @@ use Rattle.records.specs.declared.refusal.Refusal.the-variants.{
   Kind,
   Threshold,
   SizeLimit,
-  SurveyDrawings,
+  SurveyLength,
   OutputLength,
 }
 use Rattle.records.specs.declared.refusal.Checked.{Checked}
@@ -36,7 +37,7 @@ number-of (Step k) = 10
 number-of (Kind k) = 11
 number-of Threshold = 12
 number-of SizeLimit = 13
-number-of SurveyDrawings = 14
+number-of SurveyLength = 14
 number-of OutputLength = 15
 
 -- 0 where there is nothing to refuse
@@ -44,20 +45,36 @@ abbrev pub checked-number : Checked → ℕ
 checked-number Accepted = 0
 checked-number (Refused r) = number-of r
 
+-- the first that applies of two checks
+abbrev pub or-else : Checked → Checked → Checked
+or-else Accepted c = c
+or-else (Refused r) c = Refused r
+
+-- THE FIRST THAT APPLIES of two numbers, where 0 is none
+unfoldable pub first-of : ℕ → ℕ → ℕ
+first-of a b = cond (eqb a 0) b a
+
+-- THE NUMBERS of the paper are 1 to 15
+pub number-range : (r : Refusal) → (0 < number-of r) × (number-of r ≤ 15)
+number-range DrawingLength = (lit< tt, lit≤ tt)
+number-range DeviceCount = (lit< tt, lit≤ tt)
+number-range CableCount = (lit< tt, lit≤ tt)
+number-range CableEnd = (lit< tt, lit≤ tt)
+number-range CableLoop = (lit< tt, lit≤ tt)
+number-range CablePair = (lit< tt, lit≤ tt)
+number-range UnusedByte = (lit< tt, lit≤ tt)
+number-range NotConnected = (lit< tt, lit≤ tt)
+number-range CodeLength = (lit< tt, lit≤ tt)
+number-range (Step k) = (lit< tt, lit≤ tt)
+number-range (Kind k) = (lit< tt, lit≤ tt)
+number-range Threshold = (lit< tt, lit≤ tt)
+number-range SizeLimit = (lit< tt, lit≤ tt)
+number-range SurveyLength = (lit< tt, lit≤ tt)
+number-range OutputLength = (lit< tt, lit≤ tt)
+
 -- a refusal is told from an acceptance by its number
 pub number-positive : (r : Refusal) → 0 < number-of r
-number-positive DrawingLength = lit< tt
-number-positive DeviceCount = lit< tt
-number-positive CableCount = lit< tt
-number-positive CableEnd = lit< tt
-number-positive CableLoop = lit< tt
-number-positive CablePair = lit< tt
-number-positive UnusedByte = lit< tt
-number-positive NotConnected = lit< tt
-number-positive CodeLength = lit< tt
-number-positive (Step k) = lit< tt
-number-positive (Kind k) = lit< tt
-number-positive Threshold = lit< tt
-number-positive SizeLimit = lit< tt
-number-positive SurveyDrawings = lit< tt
-number-positive OutputLength = lit< tt
+number-positive r = number-range r .0
+
+pub number-small : (r : Refusal) → number-of r ≤ 15
+number-small r = number-range r .1

@@ -7,10 +7,7 @@ use Rattle.graphs.specs.Survey as surveys
 use Rattle.records.specs.declared.survey.SurveyChecked.{SurveyChecked}
 use Rattle.records.specs.declared.survey.SurveyChecked.the-variants.{Accepted, Refused}
 use Rattle.records.specs.Refusals.{number-of}
-
--- the number of whole drawings
-abbrev pub drawings-in : List ℕ → ℕ
-drawings-in bs = length bs / 72
+use Rattle.graphs.specs.Survey.{drawing-count}
 
 -- the number, 0 where there is nothing to refuse, and the drawing
 abbrev pub survey-checked : SurveyChecked → surveys.Refusal
@@ -20,4 +17,4 @@ survey-checked (Refused r d) = surveys.refusal (number-of r) d
 -- r tells a refusal of the survey bs, or where there is none its number of drawings
 pub record Survey-answer (told : surveys.Refusal) (bs : List ℕ) (r : SurveyChecked) : Type 0 where
   pub refusal : survey-checked r ≡ told
-  pub drawings : (n : ℕ) → r ≡ Accepted n → n ≡ drawings-in bs
+  pub drawings : (n : ℕ) → r ≡ Accepted n → n ≡ drawing-count bs

@@ -1,7 +1,16 @@
 // Plain bytes, of any number.
 ghost use mathlib.Core.Path.{_≡_};
+ghost use lib.ListN.{length, replicate};
 ghost use lib.ListN.{getD};
-ghost use Rattle.graphs.specs.Drawing.{all-zero};
+
+// Zeros throughout: what a catalogue that does not fit leaves behind.
+pub fn clear(output: &mut [u8])
+    ensures { λ _. ⌜ now (output .exit) ≡ replicate (length (now (output .entry))) 0 ⌝ }
+{
+    for i in 0..output.len() {
+        output[i] = 0;
+    }
+}
 
 // A byte of a record that may be too short to have it.
 pub(crate) fn byte_or_zero(bytes: &[u8], at: usize) -> usize
@@ -12,16 +21,4 @@ pub(crate) fn byte_or_zero(bytes: &[u8], at: usize) -> usize
     } else {
         0
     }
-}
-
-// Whether every byte is zero, as those that a record leaves unused must be.
-pub(crate) fn all_zero(bytes: &[u8]) -> bool
-    ensures { λ r. ⌜ r ≡ all-zero (now (bytes .entry)) ⌝ }
-{
-    for i in 0..bytes.len() {
-        if bytes[i] != 0 {
-            return false;
-        }
-    }
-    true
 }

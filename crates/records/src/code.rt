@@ -15,7 +15,7 @@ impl Code {
 
     pub const RECORD_BYTES: usize = 5;
 
-    pub const BYTES: usize = 100;
+    pub const BYTES: usize = Code::MOST_RECORDS * Code::RECORD_BYTES;
 
     // No record, and no path yet.
     pub fn new() -> Self

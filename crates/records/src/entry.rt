@@ -1,4 +1,5 @@
 // An entry of a catalogue: its number of cables, its support, and its code's records, with zeros up to the most of them.
+use crate::code::Code;
 ghost use mathlib.Core.Path.{_≡_};
 
 // The two numbers that an entry begins with.
@@ -8,7 +9,7 @@ pub struct Entry {
 }
 
 impl Entry {
-    pub const BYTES: usize = 42;
+    pub const BYTES: usize = Entry::RECORDS_AT + Entry::MOST_RECORDS * Code::RECORD_BYTES;
 
     pub const MOST_RECORDS: usize = 8;
 

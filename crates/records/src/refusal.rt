@@ -17,7 +17,7 @@ pub enum Refusal {
     Kind(usize),
     Threshold,
     SizeLimit,
-    SurveyDrawings,
+    SurveyLength,
     OutputLength,
 }
 
@@ -45,7 +45,7 @@ pub fn number(r: Refusal) -> u32
         Refusal::Kind(_) => 11,
         Refusal::Threshold => 12,
         Refusal::SizeLimit => 13,
-        Refusal::SurveyDrawings => 14,
+        Refusal::SurveyLength => 14,
         Refusal::OutputLength => 15,
     }
 }

@@ -1,2 +1,4 @@
+-- Definitions.
 pub mod Cases
+-- Laws over them.
 pub mod Starred

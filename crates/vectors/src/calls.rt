@@ -1,196 +1,185 @@
-// The calls of the library, each over the first bytes of what it is given, with its answer as an outcome.
-use crate::tally::Outcome;
-use crate::tally::counted;
-use crate::tally::refused;
-use crate::tally::refused_at;
+// The calls of the library, with their answers as numbers: a refusal's is the paper's, and yes, before and after are 1, 1 and
+// 2, as the C interface has them.
+use crate::print::Answer;
+use crate::print::print_answer;
+use crate::print::print_bytes;
+use checks::drawing::check_drawing;
+use checks::survey::check_survey;
 use coding::answer::Compared;
 use coding::answer::Verdict;
 use coding::answer::Written;
+use coding::check::check_code;
+use coding::code::code_drawing;
 use coding::compare::compare;
 use coding::decode::decode;
 use coding::least::is_least;
-use coding::search::code_drawing;
 use matching::answer::Matched;
 use matching::answer::Sameness;
 use matching::map::match_drawing;
 use matching::same::same;
-use mining::answer::Catalogued;
+use mining::catalogue::usual_catalogue;
 use mining::catalogue::write_catalogue;
+use reader::reader::Opened;
+use reader::reader::Reader;
+use records::catalogued::Catalogued;
+use records::refusal::Checked;
 use records::refusal::Refusal;
 use records::refusal::number;
 use records::survey::SurveyChecked;
-use records::survey::check_survey;
 
-// The answers of comparing, as the C interface numbers them.
-pub const EQUAL: usize = 0;
-
-pub const BEFORE: usize = 1;
-
-pub const AFTER: usize = 2;
-
-// No refusal has this number: the bytes to be lent were not there.
-const NOT_CALLED: usize = 99;
-
-fn refusal(reason: Refusal) -> Outcome {
-    refused(number(reason) as usize)
+// A refusal, with the code record at fault or else with the drawing.
+fn refused(reason: Refusal, drawing: usize) -> Answer {
+    let at = match reason {
+        Refusal::Step(record) => record,
+        Refusal::Kind(record) => record,
+        _ => drawing,
+    };
+    Answer(number(reason), at, 0)
 }
 
-fn refusal_at(reason: Refusal, drawing: usize) -> Outcome {
-    refused_at(number(reason) as usize, drawing)
-}
-
-fn written(answer: Written) -> Outcome {
+fn checked(answer: Checked) -> Answer {
     match answer {
-        Written::Bytes(n) => counted(n),
-        Written::Refused(reason) => refusal(reason),
+        Checked::Accepted => Answer(0, 0, 0),
+        Checked::Refused(reason) => refused(reason, 0),
     }
 }
 
-fn verdict(answer: Verdict) -> Outcome {
+fn surveyed(answer: SurveyChecked) -> Answer {
     match answer {
-        Verdict::No => counted(0),
-        Verdict::Yes => counted(1),
-        Verdict::Refused(reason) => refusal(reason),
+        SurveyChecked::Accepted(n) => Answer(0, 0, n),
+        SurveyChecked::Refused(reason, drawing) => refused(reason, drawing),
     }
 }
 
-fn compared(answer: Compared) -> Outcome {
+fn verdict(answer: Verdict) -> Answer {
     match answer {
-        Compared::Equal => counted(EQUAL),
-        Compared::Before => counted(BEFORE),
-        Compared::After => counted(AFTER),
-        Compared::Refused(reason) => refusal(reason),
+        Verdict::No => Answer(0, 0, 0),
+        Verdict::Yes => Answer(0, 0, 1),
+        Verdict::Refused(reason) => refused(reason, 0),
     }
 }
 
-fn matched(answer: Matched) -> Outcome {
+fn compared(answer: Compared) -> Answer {
     match answer {
-        Matched::Map(n) => counted(n),
-        Matched::NotContained => counted(0),
-        Matched::Refused(reason) => refusal(reason),
+        Compared::Equal => Answer(0, 0, 0),
+        Compared::Before => Answer(0, 0, 1),
+        Compared::After => Answer(0, 0, 2),
+        Compared::Refused(reason) => refused(reason, 0),
     }
 }
 
-fn sameness(answer: Sameness) -> Outcome {
+fn sameness(answer: Sameness) -> Answer {
     match answer {
-        Sameness::No => counted(0),
-        Sameness::Yes => counted(1),
-        Sameness::Refused(reason) => refusal(reason),
+        Sameness::No => Answer(0, 0, 0),
+        Sameness::Yes => Answer(0, 0, 1),
+        Sameness::Refused(reason) => refused(reason, 0),
     }
 }
 
-fn catalogued(answer: Catalogued) -> Outcome {
+fn written(answer: Written) -> Answer {
     match answer {
-        Catalogued::Entries(n) => counted(n),
-        Catalogued::Refused(reason, drawing) => refusal_at(reason, drawing),
+        Written::Bytes(n) => Answer(0, 0, n),
+        Written::Refused(reason) => refused(reason, 0),
     }
 }
 
-fn checked(answer: SurveyChecked) -> Outcome {
+fn matched(answer: Matched) -> Answer {
     match answer {
-        SurveyChecked::Accepted(n) => counted(n),
-        SurveyChecked::Refused(reason, drawing) => refusal_at(reason, drawing),
+        Matched::Map(n) => Answer(0, 0, n),
+        Matched::NotContained => Answer(0, 0, 0),
+        Matched::Refused(reason) => refused(reason, 0),
     }
 }
 
-fn cut_code(drawing: &[u8], length: usize, output: &mut [u8], lent: usize) -> Outcome {
-    if length <= drawing.len() && lent <= output.len() {
-        written(code_drawing(&drawing[..length], &mut output[..lent]))
-    } else {
-        refused(NOT_CALLED)
+fn catalogued(answer: Catalogued) -> Answer {
+    match answer {
+        Catalogued::Entries(n) => Answer(0, 0, n),
+        Catalogued::Refused(reason, drawing) => refused(reason, drawing),
     }
 }
 
-fn cut_decode(code: &[u8], length: usize, output: &mut [u8], lent: usize) -> Outcome {
-    if length <= code.len() && lent <= output.len() {
-        written(decode(&code[..length], &mut output[..lent]))
-    } else {
-        refused(NOT_CALLED)
+// No refusal has this number: the list asks for a call that there is not.
+const NO_CALL: u32 = 99;
+
+// The calls that are lent no output.
+const CHECK_DRAWING: u32 = 1;
+
+const CHECK_SURVEY: u32 = 2;
+
+const CHECK_CODE: u32 = 3;
+
+const IS_LEAST: u32 = 4;
+
+const COMPARE: u32 = 5;
+
+const SAME: u32 = 6;
+
+pub fn ask(call: u32, first: &[u8], second: &[u8]) -> Answer {
+    match call {
+        CHECK_DRAWING => checked(check_drawing(first)),
+        CHECK_SURVEY => surveyed(check_survey(first)),
+        CHECK_CODE => checked(check_code(first)),
+        IS_LEAST => verdict(is_least(first)),
+        COMPARE => compared(compare(first, second)),
+        SAME => sameness(same(first, second)),
+        _ => Answer(NO_CALL, 0, 0),
     }
 }
 
-fn cut_least(code: &[u8], length: usize) -> Outcome {
-    if length <= code.len() {
-        verdict(is_least(&code[..length]))
-    } else {
-        refused(NOT_CALLED)
+// The calls that are.
+const CODE_DRAWING: u32 = 8;
+
+const DECODE: u32 = 9;
+
+const MATCH_DRAWING: u32 = 10;
+
+const WRITE_CATALOGUE: u32 = 11;
+
+const USUAL_CATALOGUE: u32 = 12;
+
+fn write_one(call: u32, first: &[u8], second: &[u8], output: &mut [u8]) -> Answer {
+    match call {
+        CODE_DRAWING => written(code_drawing(first, output)),
+        DECODE => written(decode(first, output)),
+        MATCH_DRAWING => matched(match_drawing(first, second, output)),
+        _ => Answer(NO_CALL, 0, 0),
     }
 }
 
-fn cut_order(first: &[u8], m: usize, second: &[u8], n: usize) -> Outcome {
-    if m <= first.len() && n <= second.len() {
-        compared(compare(&first[..m], &second[..n]))
-    } else {
-        refused(NOT_CALLED)
-    }
-}
-
-fn cut_map(pattern: &[u8], drawing: &[u8], output: &mut [u8], lent: usize) -> Outcome {
-    if lent <= output.len() {
-        matched(match_drawing(pattern, drawing, &mut output[..lent]))
-    } else {
-        refused(NOT_CALLED)
-    }
-}
-
-fn cut_catalogue(
-    survey: &[u8],
-    length: usize,
+pub fn write(
+    call: u32,
+    first: &[u8],
+    second: &[u8],
     threshold: u32,
     limit: u32,
     output: &mut [u8],
-    lent: usize,
-) -> Outcome {
-    if length <= survey.len() && lent <= output.len() {
-        catalogued(write_catalogue(&survey[..length], threshold, limit, &mut output[..lent]))
-    } else {
-        refused(NOT_CALLED)
+) -> Answer {
+    match call {
+        WRITE_CATALOGUE => catalogued(write_catalogue(first, threshold, limit, output)),
+        USUAL_CATALOGUE => catalogued(usual_catalogue(first, output)),
+        _ => write_one(call, first, second, output),
     }
 }
 
-fn cut_survey(survey: &[u8], length: usize) -> Outcome {
-    if length <= survey.len() {
-        checked(check_survey(&survey[..length]))
-    } else {
-        refused(NOT_CALLED)
-    }
+// The reader: a survey is opened once, and then fetched from.
+pub const FETCH: u32 = 7;
+
+fn print_fetched(opened: Checked, part: &[u8], fetched: Checked) {
+    print_answer(b" opened", checked(opened));
+    print_answer(b" fetched", checked(fetched));
+    print_bytes(part);
 }
 
-pub fn code(drawing: &[u8; 72], length: usize, output: &mut [u8; 100], lent: usize) -> Outcome {
-    cut_code(drawing, length, output, lent)
+// Prints what opening said and what fetching drawing d gives.
+fn fetch<'a>(opened: Opened<'a>, d: usize) {
+    let fetched = opened.reader.fetch(d);
+    print_fetched(opened.checked, fetched.part, fetched.checked);
 }
 
-pub fn drawing_of(code: &[u8; 100], length: usize, output: &mut [u8; 72], lent: usize) -> Outcome {
-    cut_decode(code, length, output, lent)
-}
-
-pub fn least(code: &[u8; 100], length: usize) -> Outcome {
-    cut_least(code, length)
-}
-
-pub fn order(first: &[u8; 100], m: usize, second: &[u8; 100], n: usize) -> Outcome {
-    cut_order(first, m, second, n)
-}
-
-pub fn map(pattern: &[u8; 72], drawing: &[u8; 72], output: &mut [u8; 10], lent: usize) -> Outcome {
-    cut_map(pattern, drawing, output, lent)
-}
-
-pub fn sameness_of(first: &[u8; 72], second: &[u8; 72]) -> Outcome {
-    sameness(same(first, second))
-}
-
-pub fn catalogue(
-    survey: &[u8; 2376],
-    length: usize,
-    threshold: u32,
-    limit: u32,
-    output: &mut [u8; 5376],
-    lent: usize,
-) -> Outcome {
-    cut_catalogue(survey, length, threshold, limit, output, lent)
-}
-
-pub fn survey_check(survey: &[u8; 2376], length: usize) -> Outcome {
-    cut_survey(survey, length)
+// Opens a survey, and fetches three drawings from it.
+pub fn fetch_three(survey: &[u8], a: usize, b: usize, c: usize) {
+    let opened = Reader::open(survey);
+    fetch(opened, a);
+    fetch(opened, b);
+    fetch(opened, c);
 }

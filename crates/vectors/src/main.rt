@@ -1,29 +1,17 @@
-// Vectors: the drawings to try, the edges and the published examples, run through the library and through separate code that
-// tries all numberings, all maps and all sets of cables. It prints a line for each check, and how many there were.
-mod bytes; // bytes.rt: bytes at places that may lie past the end
-mod text; // text.rt: drawings and codes as text
-mod tally; // tally.rt: the line of a check
+// Vectors: makes the calls of the library that standard input lists, and prints for each what it answers and leaves in the
+// lent bytes. The list and what has to be printed are made by separate code, in tests/differential.
+mod bytes; // bytes.rt: bytes and numbers at a place
+mod print; // print.rt: an answer and bytes as text
 mod calls; // calls.rt: the calls of the library
-mod brute; // brute.rt: the least code, over all numberings
-mod maps; // maps.rt: containment and support, over all maps
-mod patterns; // patterns.rt: the catalogue, over all sets of cables
-mod code_checks; // code_checks.rt: checks of coding
-mod map_checks; // map_checks.rt: checks of matching
-mod survey_checks; // survey_checks.rt: checks of the catalogue
-mod drawings; // drawings.rt: the drawings to try
-mod edges; // edges.rt: the edges
-mod published; // published.rt: the published examples
+mod list; // list.rt: the list of calls
 
-use crate::drawings::check_drawings;
-use crate::edges::check_edges;
-use crate::published::check_published;
-use crate::tally::Tally;
-use crate::tally::print_totals;
+use crate::list::run_all;
 
+// The list has two pages, and the first is full.
 fn main() {
-    let none = Tally {
-        checks: 0,
-        failures: 0,
-    };
-    print_totals(check_published(check_edges(check_drawings(none))));
+    let mut page = io::large_buffer();
+    let n = io::read_full(0, &mut page);
+    run_all(&page[..n]);
+    let m = io::read_full(0, &mut page);
+    run_all(&page[..m]);
 }

@@ -1,85 +1,56 @@
 //! One call of the library at a time, held against the answer and the output that the other implementation expects. The lent
-//! output stands between guard bytes.
-use crate::catalogue::{self, Codes};
-use crate::code;
-use crate::drawing::{Drawing, RECORD};
-use crate::map;
-use crate::random::Random;
+//! output stands between guard bytes. Beside each call the shims of shims.rs spoil a copy of what came back: the same comparison has
+//! to find each of them out at some call.
 use holvreiz::raw;
-use std::cmp::Ordering;
-use std::collections::BTreeMap;
-use std::fmt::Debug;
+use holvreiz_differential::answers::{self, Answer};
+use holvreiz_differential::catalogue::{Codes, ENTRY};
+use holvreiz_differential::random::Random;
+use holvreiz_differential::shims::{Came, Given, SHIMS};
+use std::collections::{BTreeMap, BTreeSet};
 
 const GUARD: usize = 24;
-
-/// Whose refusal it is.
-pub const FIRST: &str = "";
-pub const SECOND: &str = ", the second";
-pub const LATER: &str = ", a later drawing";
 
 pub fn refused(number: u8, whose: &str) -> String {
     format!("refused {number:2}{whose}")
 }
 
-/// What a call should return and leave in the lent output.
-struct Expected {
-    outcome: String,
-    refusal: u8,
-    drawing: usize,
-    count: usize,
-    output: Vec<u8>,
-}
-
-impl Expected {
-    fn answer(outcome: &str, count: usize, output: Vec<u8>) -> Self {
-        Expected {
-            outcome: outcome.to_string(),
-            refusal: 0,
-            drawing: 0,
-            count,
-            output,
-        }
-    }
-
-    /// A refusal writes nothing.
-    fn refusal(number: u8, whose: &str, output: &[u8]) -> Self {
-        Expected {
-            outcome: refused(number, whose),
-            refusal: number,
-            drawing: 0,
-            count: 0,
-            output: output.to_vec(),
-        }
-    }
-
-    fn returned(&self) -> u64 {
-        (self.drawing as u64 * 256 + u64::from(self.refusal)) * (1 << 32) + self.count as u64
+fn outcome(answer: &Answer) -> String {
+    match answer.refused.number {
+        0 => answer.said.to_string(),
+        number => refused(number, answer.said),
     }
 }
 
-/// The first of two is checked fully before the second.
-fn both<T>(first: Result<T, u8>, second: Result<T, u8>) -> Result<(T, T), (u8, &'static str)> {
-    let first = first.map_err(|number| (number, FIRST))?;
-    let second = second.map_err(|number| (number, SECOND))?;
-    Ok((first, second))
-}
-
-/// The bytes in front, and what was there behind them.
-fn in_front(bytes: &[u8], output: &[u8]) -> Vec<u8> {
-    [bytes, &output[bytes.len()..]].concat()
+/// The number that a call returns. It names a drawing at fault, but no record of a code.
+fn returned(answer: &Answer) -> u64 {
+    let drawing = match answer.refused.number {
+        10 | 11 => 0,
+        _ => answer.refused.at,
+    };
+    (drawing as u64 * 256 + u64::from(answer.refused.number)) * (1 << 32) + answer.count as u64
 }
 
 /// How often each call had each outcome, and where the lent bytes come from.
 pub struct Calls {
     seen: BTreeMap<(&'static str, String), usize>,
+    found: BTreeSet<usize>,
     random: Random,
     codes: Codes,
+}
+
+/// What is wrong with what came back, if something is.
+fn wrong(expected: &Answer, number: u64, output: &[u8]) -> Option<&'static str> {
+    if number != returned(expected) {
+        return Some("another number was returned");
+    }
+    (output != expected.output).then_some("another output")
 }
 
 impl Calls {
     pub fn new(seed: u64) -> Self {
         Calls {
             seen: BTreeMap::new(),
+            found: BTreeSet::new(),
             random: Random::new(seed),
             codes: Codes::default(),
         }
@@ -89,122 +60,129 @@ impl Calls {
         &self.seen
     }
 
+    /// The shims that no call has found out.
+    pub fn unnoticed(&self) -> Vec<(&'static str, &'static str)> {
+        let left = (0..SHIMS.len()).filter(|shim| !self.found.contains(shim));
+        left.map(|shim| (SHIMS[shim].0, SHIMS[shim].1)).collect()
+    }
+
     /// Calls with a lent output of random bytes between guards, and compares everything.
     fn hold(
         &mut self,
-        call: &'static str,
-        given: &dyn Debug,
+        given: Given,
         room: usize,
-        expect: impl FnOnce(&[u8]) -> Expected,
+        expect: impl FnOnce(&[u8]) -> Answer,
         run: impl FnOnce(&mut [u8]) -> u64,
     ) {
+        let Given {
+            call,
+            first,
+            second,
+            settings,
+        } = given;
         let before = self.random.bytes(room + 2 * GUARD);
         let expected = expect(&before[GUARD..GUARD + room]);
+        let outcome = outcome(&expected);
         let mut after = before.clone();
-        let returned = run(&mut after[GUARD..GUARD + room]);
-        let outcome = expected.outcome.as_str();
+        let number = run(&mut after[GUARD..GUARD + room]);
+        let output = &after[GUARD..GUARD + room];
+        if let Some(wrong) = wrong(&expected, number, output) {
+            panic!("{call} of {first:?}, {second:?}, {settings:?}: {outcome} expected, {wrong}: {number:#x}");
+        }
+        let guards = |bytes: &[u8]| [&bytes[..GUARD], &bytes[GUARD + room..]].concat();
         assert_eq!(
-            returned,
-            expected.returned(),
-            "{call} of {given:?}: {outcome} expected"
+            guards(&after),
+            guards(&before),
+            "{call} of {first:?}, {second:?}, {settings:?} wrote outside its output"
         );
-        assert_eq!(
-            after[GUARD..GUARD + room],
-            expected.output,
-            "{call} of {given:?}: {outcome}, but another output"
-        );
-        assert_eq!(
-            after[..GUARD],
-            before[..GUARD],
-            "{call} of {given:?} wrote in front of its output"
-        );
-        assert_eq!(
-            after[GUARD + room..],
-            before[GUARD + room..],
-            "{call} of {given:?} wrote behind its output"
-        );
-        *self.seen.entry((call, expected.outcome)).or_default() += 1;
+        self.spoil(&given, &expected, number, output);
+        *self.seen.entry((call, outcome)).or_default() += 1;
+    }
+
+    /// Each shim of this call that is not found out yet, on a copy of what came back.
+    fn spoil(&mut self, given: &Given, expected: &Answer, number: u64, output: &[u8]) {
+        for (shim, (call, _, spoil)) in SHIMS.iter().enumerate() {
+            if *call != given.call || self.found.contains(&shim) {
+                continue;
+            }
+            let (mut returned, mut output) = (number, output.to_vec());
+            let came = &mut Came {
+                returned: &mut returned,
+                output: &mut output,
+            };
+            spoil(given, came);
+            if wrong(expected, returned, &output).is_some() {
+                self.found.insert(shim);
+            }
+        }
     }
 
     pub fn code(&mut self, drawing: &[u8], room: usize) {
-        let expect = |output: &[u8]| match Drawing::read(drawing) {
-            Err(number) => Expected::refusal(number, FIRST, output),
-            Ok(read) if room < code::RECORD * read.cables.len() => {
-                Expected::refusal(15, FIRST, output)
-            }
-            Ok(read) => {
-                let bytes = code::bytes(&code::least(&read));
-                Expected::answer("written", bytes.len(), in_front(&bytes, output))
-            }
+        let expect = |lent: &[u8]| answers::code(drawing, lent);
+        let given = Given {
+            call: "code",
+            first: drawing,
+            second: &[],
+            settings: (0, 0),
         };
-        self.hold("code", &drawing, room, expect, |output| {
-            raw::code(drawing, output)
-        });
+        self.hold(given, room, expect, |output| raw::code(drawing, output));
     }
 
     pub fn decode(&mut self, bytes: &[u8], room: usize) {
-        let expect = |output: &[u8]| match code::read(bytes) {
-            Err(number) => Expected::refusal(number, FIRST, output),
-            Ok(_) if room < RECORD => Expected::refusal(15, FIRST, output),
-            Ok(code) => Expected::answer(
-                "written",
-                RECORD,
-                in_front(&code::described(&code).record(), output),
-            ),
+        let expect = |lent: &[u8]| answers::decode(bytes, lent);
+        let given = Given {
+            call: "decode",
+            first: bytes,
+            second: &[],
+            settings: (0, 0),
         };
-        self.hold("decode", &bytes, room, expect, |output| {
-            raw::decode(bytes, output)
-        });
+        self.hold(given, room, expect, |output| raw::decode(bytes, output));
     }
 
     pub fn is_least(&mut self, bytes: &[u8]) {
-        let expect = |_: &[u8]| match code::read(bytes) {
-            Err(number) => Expected::refusal(number, FIRST, &[]),
-            Ok(code) if code == code::least(&code::described(&code)) => {
-                Expected::answer("yes", 1, vec![])
-            }
-            Ok(_) => Expected::answer("no", 0, vec![]),
+        let expect = |_: &[u8]| answers::is_least(bytes);
+        let given = Given {
+            call: "is_least",
+            first: bytes,
+            second: &[],
+            settings: (0, 0),
         };
-        self.hold("is_least", &bytes, 0, expect, |_| raw::is_least(bytes));
+        self.hold(given, 0, expect, |_| raw::is_least(bytes));
     }
 
     pub fn compare(&mut self, first: &[u8], second: &[u8]) {
-        let expect = |_: &[u8]| match both(code::read(first), code::read(second)) {
-            Err((number, whose)) => Expected::refusal(number, whose, &[]),
-            Ok((first, second)) => match code::order(&first, &second) {
-                Ordering::Equal => Expected::answer("equal", 0, vec![]),
-                Ordering::Less => Expected::answer("before", 1, vec![]),
-                Ordering::Greater => Expected::answer("after", 2, vec![]),
-            },
+        let expect = |_: &[u8]| answers::compare(first, second);
+        let given = Given {
+            call: "compare",
+            first: first,
+            second: second,
+            settings: (0, 0),
         };
-        self.hold("compare", &(first, second), 0, expect, |_| {
-            raw::compare(first, second)
-        });
+        self.hold(given, 0, expect, |_| raw::compare(first, second));
     }
 
     pub fn match_drawing(&mut self, pattern: &[u8], drawing: &[u8], room: usize) {
-        let expect = |output: &[u8]| match both(Drawing::read(pattern), Drawing::read(drawing)) {
-            Err((number, whose)) => Expected::refusal(number, whose, output),
-            Ok((pattern, _)) if room < pattern.devices() => Expected::refusal(15, FIRST, output),
-            Ok((pattern, drawing)) => match map::least_map(&pattern, &drawing) {
-                Some(map) => Expected::answer("map", map.len(), in_front(&map, output)),
-                None => Expected::answer("not contained", 0, output.to_vec()),
-            },
+        let expect = |lent: &[u8]| answers::match_drawing(pattern, drawing, lent);
+        let given = Given {
+            call: "match",
+            first: pattern,
+            second: drawing,
+            settings: (0, 0),
         };
-        self.hold("match", &(pattern, drawing), room, expect, |output| {
+        self.hold(given, room, expect, |output| {
             raw::match_drawing(pattern, drawing, output)
         });
     }
 
     pub fn same(&mut self, first: &[u8], second: &[u8]) {
-        let expect = |_: &[u8]| match both(Drawing::read(first), Drawing::read(second)) {
-            Err((number, whose)) => Expected::refusal(number, whose, &[]),
-            Ok((first, second)) if map::same(&first, &second) => Expected::answer("yes", 1, vec![]),
-            Ok(_) => Expected::answer("no", 0, vec![]),
+        let expect = |_: &[u8]| answers::same(first, second);
+        let given = Given {
+            call: "same",
+            first: first,
+            second: second,
+            settings: (0, 0),
         };
-        self.hold("same", &(first, second), 0, expect, |_| {
-            raw::same(first, second)
-        });
+        self.hold(given, 0, expect, |_| raw::same(first, second));
     }
 
     /// The catalogue with as many bytes lent as `room` makes of those that the entries need.
@@ -215,36 +193,17 @@ impl Calls {
         limit: u32,
         room: impl Fn(usize) -> usize,
     ) {
-        let read = catalogue::read(survey, threshold, limit);
-        let entries = read.map(|drawings| {
-            self.codes
-                .catalogue(&drawings, threshold as usize, limit as usize)
-        });
-        let room = room(entries.as_ref().map_or(2, Vec::len) * catalogue::ENTRY);
-        let expect = |output: &[u8]| match &entries {
-            Err(refused) => {
-                let whose = if refused.drawing == 0 { FIRST } else { LATER };
-                Expected {
-                    drawing: refused.drawing,
-                    ..Expected::refusal(refused.number, whose, output)
-                }
-            }
-            Ok(entries) if room < entries.len() * catalogue::ENTRY => {
-                Expected::refusal(15, FIRST, &vec![0; room])
-            }
-            Ok(entries) if entries.is_empty() => Expected::answer("no entry", 0, output.to_vec()),
-            Ok(entries) => Expected::answer(
-                "entries",
-                entries.len(),
-                in_front(&catalogue::bytes(entries), output),
-            ),
+        let entries = self.codes.of_survey(survey, threshold, limit);
+        let room = room(entries.as_ref().map_or(2, Vec::len) * ENTRY);
+        let expect = |lent: &[u8]| answers::catalogue(&entries, lent);
+        let given = Given {
+            call: "catalogue",
+            first: survey,
+            second: &[],
+            settings: (threshold, limit),
         };
-        self.hold(
-            "catalogue",
-            &(survey, threshold, limit),
-            room,
-            expect,
-            |output| raw::catalogue(survey, threshold, limit, output),
-        );
+        self.hold(given, room, expect, |output| {
+            raw::catalogue(survey, threshold, limit, output)
+        });
     }
 }

@@ -2,6 +2,7 @@
 //! found by writing out the code of every numbering of the devices and keeping the least. Nothing is cut off by comparing
 //! unfinished codes, which is what the library does.
 use crate::drawing::{Cable, Drawing, Joined, MOST_CABLES, MOST_DEVICES};
+use crate::refused::Refused;
 use std::cmp::{Ordering, Reverse};
 
 pub const RECORD: usize = 5;
@@ -95,19 +96,19 @@ impl Reading {
     }
 }
 
-/// The records of a code, or the first refusal that applies.
-pub fn read(bytes: &[u8]) -> Result<Code, u8> {
+/// The records of a code, or the first refusal that applies, with the record at fault.
+pub fn read(bytes: &[u8]) -> Result<Code, Refused> {
     if bytes.is_empty() || bytes.len() > RECORD * MOST_CABLES || bytes.len() % RECORD != 0 {
-        return Err(9);
+        return Err(Refused::of(9));
     }
     let mut code: Code = Vec::new();
     let mut reading = Reading::default();
-    for record in bytes.chunks(RECORD).map(Record::from_bytes) {
+    for (at, record) in bytes.chunks(RECORD).map(Record::from_bytes).enumerate() {
         if !reading.permits(&record, code.last()) {
-            return Err(10);
+            return Err(Refused { number: 10, at });
         }
         if !reading.agrees(&record) {
-            return Err(11);
+            return Err(Refused { number: 11, at });
         }
         reading.take(&record);
         code.push(record);

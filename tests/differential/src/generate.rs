@@ -15,22 +15,63 @@ pub struct Shape {
 /// A connected drawing: a random tree, and further cables between pairs that are not joined.
 pub fn drawing(random: &mut Random, shape: Shape) -> Drawing {
     let devices = random.between(shape.devices.0, shape.devices.1);
-    let mut pairs: Vec<(usize, usize)> = (1..devices)
-        .map(|device| (random.below(device), device))
-        .collect();
     let room = shape
         .most_cables
         .min(MOST_CABLES)
-        .saturating_sub(pairs.len());
+        .saturating_sub(devices - 1);
+    let mut pairs = tree(random, devices);
     for _ in 0..random.below(room + 1) {
-        let pair = (random.below(devices), random.below(devices));
-        let pair = (pair.0.min(pair.1), pair.0.max(pair.1));
-        if pair.0 != pair.1 && !pairs.contains(&pair) {
-            pairs.push(pair);
-        }
+        pairs.extend(new_pair(random, devices, &pairs));
     }
-    let spread = *random.pick(&[1, 1, 7, 255 / shape.kinds]);
-    let kind = |random: &mut Random| (random.below(shape.kinds) * spread) as u8;
+    labelled(random, devices, pairs, shape.kinds)
+}
+
+/// A connected drawing of just so many devices and cables.
+pub fn drawing_of(random: &mut Random, devices: usize, cables: usize, kinds: usize) -> Drawing {
+    let mut pairs = tree(random, devices);
+    while pairs.len() < cables {
+        pairs.extend(new_pair(random, devices, &pairs));
+    }
+    labelled(random, devices, pairs, kinds)
+}
+
+/// The same with the least kind as the greatest: few kinds are then near 255.
+pub fn turned_over(drawing: &Drawing) -> Drawing {
+    let cables = drawing.cables.iter().map(|cable| Cable {
+        kind: 255 - cable.kind,
+        ..*cable
+    });
+    Drawing {
+        kinds: drawing.kinds.iter().map(|kind| 255 - kind).collect(),
+        cables: cables.collect(),
+    }
+}
+
+fn tree(random: &mut Random, devices: usize) -> Vec<(usize, usize)> {
+    (1..devices)
+        .map(|device| (random.below(device), device))
+        .collect()
+}
+
+/// A pair that is not joined yet, if luck has one.
+fn new_pair(
+    random: &mut Random,
+    devices: usize,
+    pairs: &[(usize, usize)],
+) -> Option<(usize, usize)> {
+    let pair = (random.below(devices), random.below(devices));
+    let pair = (pair.0.min(pair.1), pair.0.max(pair.1));
+    (pair.0 != pair.1 && !pairs.contains(&pair)).then_some(pair)
+}
+
+fn labelled(
+    random: &mut Random,
+    devices: usize,
+    pairs: Vec<(usize, usize)>,
+    most_kinds: usize,
+) -> Drawing {
+    let spread = *random.pick(&[1, 1, 7, (255 / most_kinds).max(1)]);
+    let kind = |random: &mut Random| (random.below(most_kinds) * spread) as u8;
     let kinds = (0..devices).map(|_| kind(random)).collect();
     let cables = pairs
         .into_iter()

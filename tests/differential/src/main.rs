@@ -4,26 +4,21 @@
 //! The proofs speak of the program as the prover reads it. This looks at what the compiler made of it and at how other
 //! languages call it, and it reads the paper a second time.
 mod calls;
-mod catalogue;
-mod code;
-mod drawing;
-mod generate;
-mod map;
-mod random;
-#[cfg(test)]
-mod tests;
 
-use calls::{refused, Calls, FIRST, SECOND};
-use drawing::{Drawing, RECORD};
-use generate::Shape;
-use random::Random;
+use calls::{refused, Calls};
+use holvreiz_differential::answers::{FIRST, LATER, SECOND};
+use holvreiz_differential::code;
+use holvreiz_differential::drawing::{self, Drawing, RECORD};
+use holvreiz_differential::generate::{self, Shape};
+use holvreiz_differential::random::Random;
+use holvreiz_differential::shims::SHIMS;
 use std::process::ExitCode;
 
-/// Another one may be given as the program's argument.
-const SEED: u64 = 20_240_615;
+/// Others may be given as the program's arguments.
+const SEEDS: [u64; 2] = [20_240_615, 65_537];
 
 /// The fewest times that each outcome has to occur.
-const TIMES: usize = 5;
+const TIMES: usize = 2;
 
 const SMALL: Shape = Shape {
     devices: (2, 6),
@@ -158,8 +153,70 @@ fn symmetric_matches(calls: &mut Calls, random: &mut Random, drawings: &[Drawing
     }
 }
 
+/// As large as the format allows: ten devices and twenty cables, of few kinds and of kinds up to 255.
+fn largest(calls: &mut Calls, random: &mut Random, times: usize) {
+    for _ in 0..times {
+        let kinds = *random.pick(&[2, 3, 4, 256]);
+        let mut drawing = generate::drawing_of(random, 10, 20, kinds);
+        if random.once_in(2) {
+            drawing = generate::turned_over(&drawing);
+        }
+        accepted_drawings(calls, random, std::slice::from_ref(&drawing));
+        let least = code::least(&drawing);
+        let any = generate::any_code(random, &drawing);
+        for code in [&least, &any] {
+            calls.decode(&code::bytes(code), RECORD + 1);
+            calls.is_least(&code::bytes(code));
+            calls.compare(&code::bytes(code), &code::bytes(&least[..19]));
+        }
+        let other = generate::redrawn(random, &drawing).record();
+        calls.match_drawing(&other, &drawing.record(), drawing::MOST_DEVICES + 1);
+    }
+}
+
 mod surveys {
     use super::*;
+
+    /// Large drawings at the largest size limit, 32 of them, kinds up to 255, and more entries than anyone reads.
+    pub fn largest(calls: &mut Calls, random: &mut Random) {
+        for (drawings, devices, cables, kinds) in [(2, 9, 11, 4), (3, 10, 12, 256), (2, 10, 11, 3)]
+        {
+            let survey = survey_of(random, drawings, devices, cables, kinds);
+            for (threshold, room) in [(1, 50), (2, 0)] {
+                calls.catalogue(&survey, threshold, 8, |needed| needed + room);
+            }
+        }
+        let ring = generate::plain(&[0, 1, 2, 3, 4, 5, 6, 7].map(|v| (v, (v + 1) % 8)));
+        calls.catalogue(&[ring.record(), ring.record()].concat(), 2, 8, |needed| {
+            needed
+        });
+        let all_alike = generate::drawing_of(random, 10, 12, 2).record().repeat(32);
+        calls.catalogue(&all_alike, 32, 6, |needed| needed);
+        let many = survey_of(random, 32, 10, 20, 16);
+        calls.catalogue(&many, 1, 4, |needed| needed + 1);
+        let mut last_at_fault = survey_of(random, 32, 10, 20, 3);
+        last_at_fault[31 * RECORD + 1] = 0;
+        calls.catalogue(&last_at_fault, 2, 4, |needed| needed);
+        calls.catalogue(&last_at_fault, 0, 9, |needed| needed);
+    }
+
+    fn survey_of(
+        random: &mut Random,
+        drawings: usize,
+        devices: usize,
+        cables: usize,
+        kinds: usize,
+    ) -> Vec<u8> {
+        let mut survey = vec![generate::drawing_of(random, devices, cables, kinds)];
+        while survey.len() < drawings {
+            let next = match random.once_in(2) {
+                true => generate::redrawn(random, &survey[0]),
+                false => generate::drawing_of(random, devices, cables, kinds),
+            };
+            survey.push(next);
+        }
+        records(&survey)
+    }
 
     /// Drawings that have much in common: neighbours of a few.
     fn survey(random: &mut Random, drawings: usize, shape: Shape) -> Vec<Drawing> {
@@ -266,7 +323,7 @@ fn outcomes() -> Vec<(&'static str, String)> {
     refusals("match", OF_THE_OUTPUT, FIRST);
     {
         refusals("catalogue", OF_A_DRAWING, FIRST);
-        refusals("catalogue", &OF_A_DRAWING[1..], calls::LATER);
+        refusals("catalogue", &OF_A_DRAWING[1..], LATER);
         refusals("catalogue", &[12, 13, 14], FIRST);
         refusals("catalogue", OF_THE_OUTPUT, FIRST);
     }
@@ -287,36 +344,50 @@ fn report(calls: &Calls) -> Vec<(&'static str, String)> {
         .collect()
 }
 
-fn main() -> ExitCode {
-    let seed = std::env::args()
-        .nth(1)
-        .map_or(SEED, |seed| seed.parse().expect("a number"));
-    let mut calls = Calls::new(!seed);
+/// All inputs that come from one seed.
+fn run(calls: &mut Calls, seed: u64) {
     let random = &mut Random::new(seed);
-
-    let any: Vec<Drawing> = (0..3000)
+    let any: Vec<Drawing> = (0..1500)
         .map(|_| {
             let shape = any_shape(random);
             generate::drawing(random, shape)
         })
         .collect();
-    accepted_drawings(&mut calls, random, &any);
-    accepted_drawings(&mut calls, random, &generate::symmetric());
-    damaged_drawings(&mut calls, random, 5000);
-    codes(&mut calls, random, 2500);
-    matches(&mut calls, random, 2500);
-    symmetric_matches(&mut calls, random, &generate::symmetric());
-    {
-        surveys::accepted(&mut calls, random, 400, SMALL, 12);
-        surveys::accepted(&mut calls, random, 200, PLAIN, 12);
-        surveys::accepted(&mut calls, random, 40, MIDDLE, 32);
-        surveys::damaged(&mut calls, random, 4000);
+    accepted_drawings(calls, random, &any);
+    accepted_drawings(calls, random, &generate::symmetric());
+    damaged_drawings(calls, random, 2500);
+    codes(calls, random, 1200);
+    matches(calls, random, 1200);
+    symmetric_matches(calls, random, &generate::symmetric());
+    largest(calls, random, 8);
+    surveys::accepted(calls, random, 200, SMALL, 12);
+    surveys::accepted(calls, random, 100, PLAIN, 12);
+    surveys::accepted(calls, random, 20, MIDDLE, 32);
+    surveys::damaged(calls, random, 3000);
+    surveys::largest(calls, random);
+}
+
+fn main() -> ExitCode {
+    let given: Vec<u64> = std::env::args()
+        .skip(1)
+        .map(|seed| seed.parse().expect("a number"))
+        .collect();
+    let seeds = if given.is_empty() { &SEEDS } else { &given[..] };
+    let mut calls = Calls::new(!seeds[0]);
+    for &seed in seeds {
+        run(&mut calls, seed);
     }
 
     let missing = report(&calls);
-    if missing.is_empty() {
+    let unnoticed = calls.unnoticed();
+    println!(
+        "{} of {} spoiled libraries noticed",
+        SHIMS.len() - unnoticed.len(),
+        SHIMS.len()
+    );
+    if missing.is_empty() && unnoticed.is_empty() {
         return ExitCode::SUCCESS;
     }
-    println!("too rare: {missing:?}");
+    println!("too rare: {missing:?}; not noticed: {unnoticed:?}");
     ExitCode::FAILURE
 }

@@ -65,11 +65,14 @@ fn least_codes_of_the_paper() {
 
 #[test]
 fn codes_that_are_refused() {
-    let refusal = |pairs: &[(usize, usize)]| code::read(&code::bytes(&plain_code(pairs))).err();
+    let refusal = |pairs: &[(usize, usize)]| {
+        let read = code::read(&code::bytes(&plain_code(pairs)));
+        read.err().map(|refused| (refused.number, refused.at))
+    };
     assert_eq!(refusal(&[(0, 1), (0, 2)]), None);
-    assert_eq!(refusal(&[(0, 1), (1, 2), (0, 3), (1, 4)]), Some(10));
-    assert_eq!(refusal(&[(0, 1), (1, 0)]), Some(10));
-    assert_eq!(refusal(&[]), Some(9));
+    assert_eq!(refusal(&[(0, 1), (1, 2), (0, 3), (1, 4)]), Some((10, 3)));
+    assert_eq!(refusal(&[(0, 1), (1, 0)]), Some((10, 1)));
+    assert_eq!(refusal(&[]), Some((9, 0)));
 }
 
 #[test]
@@ -104,7 +107,7 @@ fn surveys_that_are_refused() {
     let refusal = |survey: &[u8], s: u32, l: u32| {
         catalogue::read(survey, s, l)
             .err()
-            .map(|r| (r.number, r.drawing))
+            .map(|r| (r.number, r.at))
     };
     assert_eq!(refusal(&survey, 2, 4), None);
     assert_eq!(refusal(&survey[1..], 33, 0), Some((12, 0)));

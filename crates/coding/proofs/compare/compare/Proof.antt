@@ -1,7 +1,7 @@
 -- `compare::compare` meets its contract, place by place: the first code, the second, and their order. Assumes nothing.
 use mathlib.Core.Path.{_≡_, sym, _∙_}
 use borrow.Author.Needs.{needs}
-use Rattle.branches.specs.declared.«record».Order.{Order}
+use Rattle.tables.specs.declared.«record».Order.{Order}
 use Rattle.coding.specs.Comparing.{order-answer, Compare-says}
 use Rattle.coding.specs.ComparingLaws.{compare-first, compare-second, compare-order}
 use Rattle.coding.proofs.compare.compare.Statement.{statement}

@@ -5,9 +5,17 @@ use mathlib.Core.Path.{_≡_, sym, _∙_, ap₂}
 use native.Mathlib.Omega.{arith}
 use borrow.Author.Needs.{needs}
 use Rattle.codes.specs.Code.{code-records}
-use Rattle.branches.specs.Records.{order-of}
+use Rattle.tables.specs.Records.{order-of}
 use Rattle.coding.specs.Comparing.{codes-order}
-use Rattle.coding.specs.ComparingLaws.{order-from, order-start, order-longer, order-shorter, order-ended, order-same, order-differs}
+use Rattle.coding.specs.ComparingLaws.{
+  order-from,
+  order-start,
+  order-longer,
+  order-shorter,
+  order-ended,
+  order-same,
+  order-differs,
+}
 use Rattle.coding.proofs.compare.order_of_codes.Statement.{statement}
 use Rattle.coding.proofs.compare.order_of_codes.Tie as tie
 

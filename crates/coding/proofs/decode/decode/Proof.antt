@@ -7,7 +7,7 @@ use borrow.Author.Needs.{needs}
 use lib.ListN.{drop}
 use lib.Seq.{length-take-le}
 use Rattle.records.specs.declared.refusal.Checked.the-variants.{Accepted}
-use Rattle.coding.specs.Readings.{code-checked}
+use Rattle.readings.specs.Readings.{code-checked}
 use Rattle.coding.specs.CheckLaws.{checked-accepted}
 use Rattle.coding.specs.DecodingLaws.{decode-refused, decode-short, decode-written}
 use Rattle.coding.proofs.decode.decode.Statement.{statement}

@@ -6,9 +6,9 @@ use mathlib.Core.Logic.{⊎-elim}
 use borrow.Author.Needs.{needs}
 use lib.ListN.{length}
 use Rattle.coding.specs.Decoding.{write-device, write-cable, write-first, write-forward}
-use Rattle.branches.specs.Records.{as-rec}
+use Rattle.tables.specs.Records.{as-rec}
 use Rattle.coding.specs.DrawnLaws.{write-first-length, write-forward-length, write-cable-length}
-use Rattle.coding.specs.DrawnLaws.{first-some, first-none, forward-some, forward-none}
+use Rattle.coding.specs.DrawnLaws.{write-first-some, write-first-none, forward-some, forward-none}
 use Rattle.coding.proofs.decode.write_record.Statement.{statement}
 use Rattle.coding.proofs.decode.write_record.Tie as tie
 
@@ -22,8 +22,8 @@ two s = write-forward (as-rec (s .args .next)) (one s)
 after-one : (c : tie.Joined1) → c .if1 .drawing ≡ one (c .before .before)
 after-one c =
     let a = c .before .before .args in
-    ⊎-elim (λ w. w .5 ∙ w .2 .ensures ∙ sym (first-some (a .k) (as-rec (a .next)) (a .drawing .now) (w .0 .taken)))
-    (λ w. w .1 ∙ sym (first-none (a .k) (as-rec (a .next)) (a .drawing .now) (w .0 .left))) (c .if1 .came)
+    ⊎-elim (λ w. w .5 ∙ w .2 .ensures ∙ sym (write-first-some (a .k) (as-rec (a .next)) (a .drawing .now) (w .0 .taken)))
+    (λ w. w .1 ∙ sym (write-first-none (a .k) (as-rec (a .next)) (a .drawing .now) (w .0 .left))) (c .if1 .came)
 
 after-two : (c : tie.Joined2) → c .if2 .drawing ≡ two (c .before .before .before .before)
 after-two c =

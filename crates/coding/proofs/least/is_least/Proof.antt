@@ -6,11 +6,11 @@ use native.Mathlib.Omega.{arith}
 use borrow.Author.Needs.{needs}
 use Rattle.codes.specs.CodeBytes.{accepted-code}
 use Rattle.records.specs.declared.refusal.Checked.the-variants.{Accepted}
-use Rattle.coding.specs.Readings.{code-checked}
+use Rattle.readings.specs.Readings.{code-checked}
 use Rattle.coding.specs.CheckLaws.{checked-accepted}
-use Rattle.branches.specs.CodeRows.{code-ten}
-use Rattle.branches.specs.TableOfCode.{Byte-code, code-pattern}
-use Rattle.coding.specs.LeastStarts.{some-not-least, none-least}
+use Rattle.tables.specs.CodeRows.{code-ten}
+use Rattle.tables.specs.TableOfCode.{Byte-code, code-pattern}
+use Rattle.least_test.specs.LeastStarts.{some-not-least, none-least}
 use Rattle.coding.proofs.least.is_least.Statement.{statement}
 use Rattle.coding.proofs.least.is_least.Tie as tie
 

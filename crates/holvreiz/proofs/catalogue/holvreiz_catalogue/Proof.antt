@@ -1,6 +1,6 @@
 -- `catalogue::holvreiz_catalogue` meets its contract: a drawing at fault is one of the survey's. Assumes nothing.
 use borrow.Author.Needs.{needs}
-use Rattle.holvreiz.specs.CatalogueNumbers.{says-drawing}
+use Rattle.holvreiz.specs.FaultyDrawings.{says-drawing}
 use Rattle.holvreiz.proofs.catalogue.holvreiz_catalogue.Statement.{statement}
 use Rattle.holvreiz.proofs.catalogue.holvreiz_catalogue.Tie as tie
 

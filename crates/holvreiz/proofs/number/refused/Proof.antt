@@ -1,7 +1,7 @@
 -- `number::refused` meets its contract: no refusal is above 15, so that the number fits. Assumes nothing.
 use native.Mathlib.Omega.{arith}
 use borrow.Author.Needs.{needs}
-use Rattle.holvreiz.specs.PackedLaws.{number-small}
+use Rattle.records.specs.Refusals.{number-small}
 use Rattle.holvreiz.proofs.number.refused.Statement.{statement}
 use Rattle.holvreiz.proofs.number.refused.Tie as tie
 

@@ -4,9 +4,16 @@ use native.Mathlib.Omega.{arith}
 use borrow.Author.Needs.{needs}
 use Rattle.graphs.specs.Drawing.{devices, drawing-in, drawing-refusal}
 use Rattle.records.specs.declared.drawing.Drawing.{Drawing}
-use Rattle.records.specs.RefusalLaws.{first-of, refused-number, refused-positive, accepted-zero}
-use Rattle.matching.specs.Accepted.{accepted-count, accepted-most}
-use Rattle.matching.specs.AnswerLaws.{both-accepted, match-refused, match-short, match-found, match-not-found}
+use Rattle.records.specs.Refusals.{first-of}
+use Rattle.records.specs.RefusalLaws.{refused-number, refused-positive, accepted-zero}
+use Rattle.graphs.specs.AcceptedDrawing.{accepted-count, accepted-most}
+use Rattle.matching.specs.MatchAnswerLaws.{
+  both-accepted,
+  match-refused,
+  match-short,
+  match-found,
+  match-not-found,
+}
 use Rattle.matching.proofs.map.match_drawing.Statement.{statement}
 use Rattle.matching.proofs.map.match_drawing.Tie as tie
 

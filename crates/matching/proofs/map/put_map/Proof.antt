@@ -4,8 +4,8 @@ use Prim.Native.Nat.{_≤_, _-_}
 use native.Mathlib.Omega.{arith}
 use lib.ListN.{length, take, length-set}
 use borrow.Author.Needs.{needs}
-use Rattle.matching.specs.Answers.{in-front}
-use Rattle.matching.specs.AnswerLaws.{in-front-next}
+use Rattle.laws.specs.Lent.{in-front}
+use Rattle.matching.specs.MatchAnswerLaws.{in-front-next}
 use Rattle.matching.proofs.map.put_map.Statement.{statement}
 use Rattle.matching.proofs.map.put_map.Tie as tie
 

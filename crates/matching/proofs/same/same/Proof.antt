@@ -8,8 +8,15 @@ use borrow.Author.Tests.{eqb-true, eqb-false, not-true, not-false}
 use borrow.Author.Needs.{needs}
 use Rattle.graphs.specs.Drawing.{drawing-refusal}
 use Rattle.records.specs.declared.drawing.Drawing.{Drawing}
-use Rattle.records.specs.RefusalLaws.{first-of, refused-number, refused-positive, accepted-zero}
-use Rattle.matching.specs.AnswerLaws.{both-accepted, same-refused, same-not-counts, same-found, same-not-found}
+use Rattle.records.specs.Refusals.{first-of}
+use Rattle.records.specs.RefusalLaws.{refused-number, refused-positive, accepted-zero}
+use Rattle.matching.specs.MatchAnswerLaws.{
+  both-accepted,
+  same-refused,
+  same-not-counts,
+  same-found,
+  same-not-found,
+}
 use Rattle.matching.proofs.same.same.Statement.{statement}
 use Rattle.matching.proofs.same.same.Tie as tie
 

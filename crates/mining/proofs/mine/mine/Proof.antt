@@ -4,18 +4,26 @@ use mathlib.Core.Logic.{⊎-elim}
 use Prim.Native.Nat.{ℕ, _+_, _-_, _<_, _≤_}
 use native.Mathlib.Omega.{arith}
 use borrow.Author.Needs.{needs}
-use Rattle.mining.specs.Kinds.{Occurs}
-use Rattle.mining.specs.Mines.{Kinds-done}
-use Rattle.mining.specs.MineLaws.{mine-starts, mine-skips, mine-chooses, mine-walks, mine-full, mine-next, mine-ends}
+use Rattle.walks.specs.Kinds.{Occurs}
+use Rattle.mining.specs.SurveyMined.{Kinds-done}
+use Rattle.mining.specs.SurveyMinedLaws.{
+  mine-starts,
+  mine-skips,
+  mine-chooses,
+  mine-walks,
+  mine-full,
+  mine-next,
+  mine-ends,
+}
 use Rattle.mining.proofs.mine.mine.Statement.{statement}
 use Rattle.mining.proofs.mine.mine.Tie as tie
 use Rattle.mining.proofs.mine.mine.Reads as reads
 use Rattle.mining.proofs.mine.mine.Lts as lts
-use Rattle.coding.proofs.reading.Reading.new.Reads as new-reads
-use Rattle.mining.proofs.choose.choose.Reads as choose-reads
-use Rattle.mining.proofs.count.count_firsts.Reads as count-firsts-reads
-use Rattle.mining.proofs.grow.walk.Reads as walk-reads
-use Rattle.mining.proofs.kinds.kinds_of.Reads as kinds-of-reads
+use Rattle.readings.proofs.reading.Reading.new.Reads as new-reads
+use Rattle.candidates.proofs.choose.choose.Reads as choose-reads
+use Rattle.counting.proofs.count.count_firsts.Reads as count-firsts-reads
+use Rattle.growing.proofs.grow.walk.Reads as walk-reads
+use Rattle.surveys.proofs.kinds.kinds_of.Reads as kinds-of-reads
 
 abbrev Inv-loop : tie.InvT-loop
 Inv-loop survey labels rank alphabet settings cells₀ seen₀ list₀ output₀ written₀ n occurs kind₀ cells seen list output written kind =
@@ -43,7 +51,8 @@ count-firsts-requires c κs =
     (record { alphabet = s .args .alphabet .now; prepared = s .pre .set-up .prepared }, c .before .before .before .before .loop .inv .1 .blank)
 
 choose-requires : tie.Need-choose-requires Inv-loop μ-loop
-choose-requires c κs = mine-chooses (c .before .before .before .before .before .before .before .before .before .before .before .before .pre) (c .before .before .before .before .before .before .before .before .loop .inv .1) (c .before .before .before .count-firsts .ensures)
+choose-requires c κs = mine-chooses (c .before .before .before .before .before .before .before .before .before .before .before .before .pre)
+    (c .before .before .before .before .before .before .before .before .loop .inv .1) (c .before .before .before .count-firsts .ensures)
 
 new-requires : tie.Need-new-requires Inv-loop μ-loop
 new-requires c κs = search needs
@@ -53,7 +62,10 @@ cast-walk c = search needs
 
 walk-requires : tie.Need-walk-requires Inv-loop μ-loop
 walk-requires c κs =
-    mine-walks (c .before .before .before .before .before .before .before .before .before .before .before .before .before .before .before .before .before .before .pre) (c .before .before .before .before .before .before .before .before .before .before .before .before .before .before .loop .inv .1) (c .before .before .before .before .before .before .before .before .before .count-firsts .ensures) (c .before .before .before .before .before .choose .ensures) (c .before .before .before .before .new .ensures)
+    mine-walks (c .before .before .before .before .before .before .before .before .before .before .before .before .before .before .before
+    .before .before .before .pre) (c .before .before .before .before .before .before .before .before .before .before .before .before .before
+    .before .loop .inv .1) (c .before .before .before .before .before .before .before .before .before .count-firsts .ensures)
+    (c .before .before .before .before .before .choose .ensures) (c .before .before .before .before .new .ensures)
 
 enum-known-count : tie.Need-enum-known-count Inv-loop μ-loop
 enum-known-count c = search needs
@@ -62,11 +74,18 @@ enum-told : tie.Need-enum-told Inv-loop μ-loop
 enum-told c = search needs
 
 same-length : tie.Need-same-length Inv-loop μ-loop
-same-length c = c .before .before .before .before .walk .ensures .size ∙ c .before .before .before .before .before .before .before .before .before .before .before .before .before .before .before .before .before .before .before .loop .inv .1 .size
+same-length c = c .before .before .before .before .walk .ensures .size
+    ∙ c .before .before .before .before .before .before .before .before .before .before .before .before .before .before .before .before
+    .before .before .before .loop .inv .1 .size
 
 returns : tie.Need-returns Inv-loop μ-loop
 returns c =
-    mine-full (c .before .before .before .before .before .before .before .before .before .before .before .before .before .before .before .before .before .before .before .before .before .before .before .pre) (c .before .before .before .before .before .before .before .before .before .before .before .before .before .before .before .before .before .before .before .loop .inv .1) (c .before .before .before .before .before .before .before .before .before .before .before .before .before .before .count-firsts .ensures) (c .before .before .before .before .before .before .before .before .before .before .choose .ensures) (c .before .before .before .before .before .before .before .before .before .new .ensures)
+    mine-full (c .before .before .before .before .before .before .before .before .before .before .before .before .before .before .before
+    .before .before .before .before .before .before .before .before .pre)
+    (c .before .before .before .before .before .before .before .before .before .before .before .before .before .before .before .before
+    .before .before .before .loop .inv .1) (c .before .before .before .before .before .before .before .before .before .before .before
+    .before .before .before .count-firsts .ensures) (c .before .before .before .before .before .before .before .before .before .before
+    .choose .ensures) (c .before .before .before .before .before .before .before .before .before .new .ensures)
     (rw (c .enum-told .given .1) at (c .before .before .before .before .walk .ensures))
 
 add-kind : tie.Need-add-kind Inv-loop μ-loop

@@ -6,32 +6,17 @@ use Rattle.printing.specs.WritingLaws.{wrote-then}
 use Rattle.printing.proofs.line.put_record.Statement.{statement}
 use Rattle.printing.proofs.line.put_record.Tie as tie
 
-shared-slice-read-put-field : tie.Need-shared-slice-read-put-field
-shared-slice-read-put-field c = search needs
-
 put-field-requires : tie.Need-put-field-requires
 put-field-requires c κs = search needs
-
-shared-slice-read-put-field-2 : tie.Need-shared-slice-read-put-field-2
-shared-slice-read-put-field-2 c = search needs
 
 put-field-requires-2 : tie.Need-put-field-requires-2
 put-field-requires-2 c κs = search needs
 
-shared-slice-read-put-field-3 : tie.Need-shared-slice-read-put-field-3
-shared-slice-read-put-field-3 c = search needs
-
 put-field-requires-3 : tie.Need-put-field-requires-3
 put-field-requires-3 c κs = search needs
 
-shared-slice-read-put-field-4 : tie.Need-shared-slice-read-put-field-4
-shared-slice-read-put-field-4 c = search needs
-
 put-field-requires-4 : tie.Need-put-field-requires-4
 put-field-requires-4 c κs = search needs
-
-shared-slice-read-put-field-5 : tie.Need-shared-slice-read-put-field-5
-shared-slice-read-put-field-5 c = search needs
 
 put-field-requires-5 : tie.Need-put-field-requires-5
 put-field-requires-5 c κs = search needs
@@ -43,10 +28,10 @@ returns : tie.Need-returns
 unfolding record-text rec-in
 returns c =
     let kind-j = c .before .before in
-    let cable = kind-j .before .before .before .before .before in
-    let kind-i = cable .before .before .before .before .before in
-    let j = kind-i .before .before .before .before .before in
-    let i = j .before .before .before .before .before in
+    let cable = kind-j .before .before .before .before in
+    let kind-i = cable .before .before .before .before in
+    let j = kind-i .before .before .before .before in
+    let i = j .before .before .before .before in
     let ends = wrote-then (i .put-field .ensures) (j .put-field2 .ensures) in
     wrote-then (wrote-then (wrote-then ends (kind-i .put-field3 .ensures)) (cable .put-field4 .ensures))
     (kind-j .put-field5 .ensures)
@@ -55,15 +40,10 @@ pub put-record-spec : {M : Type 1} → statement M
 put-record-spec =
     tie.close
     (tie.spec
-    shared-slice-read-put-field
     put-field-requires
-    shared-slice-read-put-field-2
     put-field-requires-2
-    shared-slice-read-put-field-3
     put-field-requires-3
-    shared-slice-read-put-field-4
     put-field-requires-4
-    shared-slice-read-put-field-5
     put-field-requires-5
     same-length
     returns)

@@ -4,8 +4,8 @@ use mathlib.Core.Path.{refl, ap}
 use native.Mathlib.Nat.{add-comm}
 use native.Mathlib.Omega.{arith}
 use borrow.Author.Needs.{needs}
-use Rattle.records.specs.Surveys.{drawings-in}
-use Rattle.records.specs.SurveyLaws as survey-laws
+use Rattle.graphs.specs.Survey.{drawing-count}
+use Rattle.graphs.specs.AcceptedSurvey.{drawing-part}
 use Rattle.reader.proofs.part.drawing_part.Statement.{statement}
 use Rattle.reader.proofs.part.drawing_part.Tie as tie
 
@@ -31,9 +31,9 @@ returns : tie.Need-returns
 returns c =
     let s = c .before .before .before .before .before in
     let e = c .before .before .before .counted .ensures in
-    let below : s .args .d < drawings-in (s .args .survey .now) = omega arith in
+    let below : s .args .d < drawing-count (s .args .survey .now) = omega arith in
     record {
-      bytes = λ h. survey-laws.drawing-part (s .args .survey .now) (s .args .d);
+      bytes = λ h. drawing-part (s .args .survey .now) (s .args .d);
       place = λ h. ap (λ (o : ℕ). (s .args .survey .ptr .0, o)) (add-comm (72 * s .args .d) (s .args .survey .ptr .1));
       none = λ h. absurd (omega arith);
     }
@@ -51,7 +51,7 @@ returns-2 : tie.Need-returns-2
 returns-2 c =
     let s = c .before .before .before .before .before in
     let e = c .before .before .before .counted .ensures in
-    let past : drawings-in (s .args .survey .now) ≤ s .args .d = omega arith in
+    let past : drawing-count (s .args .survey .now) ≤ s .args .d = omega arith in
     record { bytes = λ h. absurd (omega arith); place = λ h. absurd (omega arith); none = λ h. refl }
 
 pub drawing-part-spec : {M : Type 1} → statement M

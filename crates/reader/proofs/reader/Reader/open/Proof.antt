@@ -46,9 +46,9 @@ use Rattle.records.specs.Refusals.{checked-number}
 use Rattle.records.specs.declared.refusal.Checked.{Checked}
 use Rattle.records.proofs.refusal.Checked as checked
 use Rattle.records.proofs.refusal.Checked.Laws as checked′
-use Rattle.records.proofs.survey.check_length as check
-use Rattle.records.proofs.survey.check_length.Symbol as check-symbol
-use Rattle.records.proofs.survey.check_length.Met as check-met
+use Rattle.checks.proofs.survey.check_length as check
+use Rattle.checks.proofs.survey.check_length.Symbol as check-symbol
+use Rattle.checks.proofs.survey.check_length.Met as check-met
 use Rattle.reader.specs.Readers.{Readable}
 use Rattle.reader.specs.declared.reader.Reader.{Reader}
 use Rattle.reader.specs.declared.reader.Opened.{Opened}
@@ -253,4 +253,4 @@ open-spec 𝓤 H 𝓜 𝓖 𝓡 =
     (cited 𝓤 H (Reads 𝓤 H A mem run) 𝓜 𝓡 code.env readable-symbol.name readable-symbol.routine
     code.calls-reader·part·readable-part (readable-met.met 𝓤 H 𝓜 𝓖 𝓡))
     (cited 𝓤 H (Checks 𝓤 H A mem run) 𝓜 𝓡 code.env check-symbol.name check-symbol.routine
-    code.calls-records·survey·check-length (check-met.met 𝓤 H 𝓜 𝓖 𝓡)))
+    code.calls-checks·survey·check-length (check-met.met 𝓤 H 𝓜 𝓖 𝓡)))

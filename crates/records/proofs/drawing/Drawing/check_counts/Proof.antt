@@ -5,7 +5,13 @@ use Prim.Native.Nat.{_≤_}
 use native.Mathlib.Omega.{arith}
 use borrow.Author.Tests.{ltb-true, ltb-false}
 use Rattle.records.specs.declared.drawing.Drawing.{Drawing}
-use Rattle.records.specs.DrawingLaws.{devices-too-few, devices-too-many, cables-too-few, cables-too-many, counts-fine}
+use Rattle.records.specs.DrawingLaws.{
+  devices-too-few,
+  devices-too-many,
+  cables-too-few,
+  cables-too-many,
+  counts-fine,
+}
 use Rattle.records.proofs.drawing.Drawing.check_counts.Statement.{statement}
 use Rattle.records.proofs.drawing.Drawing.check_counts.Tie as tie
 

@@ -1,0 +1,5 @@
+-- Definitions.
+pub mod HeldCode
+-- Laws over them.
+pub mod HeldCodeLaws
+pub mod NextRecordLaws

@@ -1,0 +1,5 @@
+-- Definitions.
+pub mod Reached
+-- Laws over them.
+pub mod ReachedLaws
+pub mod SurveyLaws

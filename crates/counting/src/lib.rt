@@ -1,0 +1,3 @@
+// Counting: in how many drawings, and in which, each record goes on from a code. Its functions ask of their callers what
+// `requires` says; the entries of the public crates ask nothing.
+pub mod count; // count.rt: the cells counted over all drawings

@@ -1,0 +1,83 @@
+-- What comparing two accepted codes tells: equal exactly when the bytes are, before and after by the order of codes. Rests on that
+-- order. Assumes nothing.
+use mathlib.Core.Path.{_≡_, refl, sym, ap, _∙_}
+use mathlib.Core.Bool.{Bool, true, false, cond}
+use mathlib.Core.List.{List}
+use Prim.Native.Nat.{ℕ}
+use native.Mathlib.Omega.{arith}
+use Rattle.laws.specs.Tests.{true-and-false, false-unless}
+use Rattle.codes.specs.Code.{Rec, code-records, code-refusal, rec-bytes, before, kinds-before}
+use Rattle.codes.specs.CodeOrder.{kinds-order, before-strict}
+use Rattle.codes.specs.CodeBytes.{accepted-code}
+use Rattle.tables.specs.declared.«record».Order.{Order}
+use Rattle.tables.specs.declared.«record».Order.the-variants as order
+use Rattle.coding.specs.declared.answer.Compared.{Compared}
+use Rattle.coding.specs.declared.answer.Compared.the-variants.{Before, Equal, After}
+use Rattle.coding.specs.Answers.{compared-numbers}
+use Rattle.coding.specs.Comparing.{codes-order, order-answer, Compare-says}
+use Rattle.coding.specs.ComparingLaws.{codes-order-equal}
+use Rattle.coding.specs.CheckLaws.{accepted-checked}
+
+-- two cases of an answer are apart
+abbrev case-number : Compared → ℕ
+case-number r = compared-numbers r .count
+
+module _ (xs ys : List ℕ) (r : Compared) (first : code-refusal xs ≡ 0) (second : code-refusal ys ≡ 0) (says : Compare-says xs ys r) where
+  abbrev rs : List Rec
+  rs = code-records xs
+
+  abbrev ss : List Rec
+  ss = code-records ys
+
+  told : r ≡ order-answer (codes-order rs ss)
+  unfolding Compare-says
+  told = says ∙ rw (accepted-checked xs first, accepted-checked ys second)
+
+  -- the two tests of the order give the three answers
+  by-tests : (p q : Bool) → before rs ss ≡ p → before ss rs ≡ q → r ≡ order-answer (cond p order.Before (cond q order.After order.Equal))
+  unfolding codes-order
+  by-tests p q e f = told ∙ rw (e, f)
+
+  apart : before rs ss ≡ true → before ss rs ≡ true → ⊥
+  apart e f = before-strict kinds-before kinds-order .irrefl rs (before-strict kinds-before kinds-order .trans rs ss rs e f)
+
+  pub before-if : before rs ss ≡ true → r ≡ Before
+  before-if e = by-tests true (before ss rs) e refl
+
+  pub after-if : before ss rs ≡ true → r ≡ After
+  after-if f = by-tests false true (false-unless (before rs ss) (λ e. apart e f)) f
+
+  same-if : rs ≡ ss → r ≡ Equal
+  same-if e = by-tests false false (none rs ss e) (none ss rs (sym e))
+    where
+      none : (ps qs : List Rec) → ps ≡ qs → before ps qs ≡ false
+      none ps qs e = rw e (false-unless (before qs qs) (before-strict kinds-before kinds-order .irrefl qs))
+
+  pub equal-if : xs ≡ ys → r ≡ Equal
+  equal-if e = same-if (ap code-records e)
+
+  -- and nothing else gives them
+  pub if-before : r ≡ Before → before rs ss ≡ true
+  if-before e = go (before rs ss) (before ss rs) refl refl
+    where
+      go : (p q : Bool) → before rs ss ≡ p → before ss rs ≡ q → before rs ss ≡ true
+      go true q f g = f
+      go false true f g = absurd (omega (arith, ap case-number (sym e ∙ by-tests false true f g)))
+      go false false f g = absurd (omega (arith, ap case-number (sym e ∙ by-tests false false f g)))
+
+  pub if-after : r ≡ After → before ss rs ≡ true
+  if-after e = go (before rs ss) (before ss rs) refl refl
+    where
+      go : (p q : Bool) → before rs ss ≡ p → before ss rs ≡ q → before ss rs ≡ true
+      go true q f g = absurd (omega (arith, ap case-number (sym e ∙ by-tests true q f g)))
+      go false true f g = g
+      go false false f g = absurd (omega (arith, ap case-number (sym e ∙ by-tests false false f g)))
+
+  pub if-equal : r ≡ Equal → xs ≡ ys
+  unfolding codes-order
+  if-equal e = sym (accepted-code xs first .bytes) ∙ ap rec-bytes (go (before rs ss) (before ss rs) refl refl) ∙ accepted-code ys second .bytes
+    where
+      go : (p q : Bool) → before rs ss ≡ p → before ss rs ≡ q → rs ≡ ss
+      go true q f g = absurd (omega (arith, ap case-number (sym e ∙ by-tests true q f g)))
+      go false true f g = absurd (omega (arith, ap case-number (sym e ∙ by-tests false true f g)))
+      go false false f g = codes-order-equal rs ss (rw (f, g))

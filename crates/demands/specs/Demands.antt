@@ -1,0 +1,270 @@
+-- THE THREE DEMANDS, and the rules of matching and of the order: each a record of statements over the bytes that a caller sees, and
+-- a theorem that proves it. A statement's hypothesis is what the contract of a public entry says of its answer: `Code-says`,
+-- `Decode-says`, `Catalogue-says` and so on, from C `Code-returns` and its fellows. It holds of whatever the call answers (r, v or
+-- t), where the lent output was o before the call and is z after it. Terms.antt has the terms that only these statements need. That
+-- an answer and every lent byte follow from the input is in Determined.antt. Assumes nothing.
+use mathlib.Core.Path.{_≡_}
+use mathlib.Core.Bool.{true}
+use mathlib.Core.List.{List, []}
+use Prim.Native.Nat.{ℕ, _*_, _≤_}
+use lib.ListN.{length}
+use denote.Ref.{RefT}
+use Rattle.graphs.specs.Drawing.{devices, drawing-in, drawing-refusal, byte-list, accepted}
+use Rattle.graphs.specs.Survey.{length-refusal, bytes-refusal}
+use Rattle.codes.specs.Code.{Rec, rec-bytes, code-records, code-refusal, rows-good, decoded, Code-of, Least, before}
+use Rattle.records.specs.declared.refusal.Checked.{Checked}
+use Rattle.records.specs.declared.survey.SurveyChecked.{SurveyChecked}
+use Rattle.records.specs.declared.catalogued.Catalogued.{Catalogued}
+use Rattle.records.specs.declared.catalogued.Catalogued.the-variants.{Entries}
+use Rattle.records.specs.Refusals.{checked-number, first-of}
+use Rattle.records.specs.Surveys.{Survey-answer}
+use Rattle.readings.specs.Readings.{code-checked}
+use Rattle.reader.specs.declared.reader.Opened.{Opened}
+use Rattle.reader.specs.Readers.{Opens}
+use Rattle.coding.specs.declared.answer.Written.{Written}
+use Rattle.coding.specs.declared.answer.Verdict.{Verdict}
+use Rattle.coding.specs.declared.answer.Verdict.the-variants as verdict
+use Rattle.coding.specs.declared.answer.Compared.{Compared}
+use Rattle.coding.specs.declared.answer.Compared.the-variants as compared
+use Rattle.coding.specs.Answers.{written-numbers, verdict-numbers, compared-numbers}
+use Rattle.coding.specs.CodeDrawing.{Code-says, Least-written}
+use Rattle.coding.specs.Decoding.{Decode-says}
+use Rattle.coding.specs.LeastSays.{Least-says}
+use Rattle.coding.specs.Comparing.{Compare-says}
+use Rattle.matching.specs.declared.answer.Matched.{Matched}
+use Rattle.matching.specs.declared.answer.Matched.the-variants as matched
+use Rattle.matching.specs.declared.answer.Sameness.{Sameness}
+use Rattle.matching.specs.declared.answer.Sameness.the-variants as sameness
+use Rattle.matching.specs.MatchAnswers.{match-refusal, match-count, same-refusal, same-value, Match-says, Same-says}
+use Rattle.mining.specs.CatalogueSays.{Catalogue-says}
+use Rattle.printing.specs.declared.answer.Printed.{Printed}
+use Rattle.printing.specs.Texts.{text-of}
+use Rattle.printing.specs.Says.{Text-says}
+use Rattle.holvreiz.specs.Returns.{
+  Code-returns,
+  Decode-returns,
+  Least-returns,
+  Compare-returns,
+  Match-returns,
+  Same-returns,
+  Catalogue-returns,
+}
+use Rattle.demands.specs.Terms.{
+  written-bytes,
+  too-short,
+  Refused-as,
+  Survey-refused,
+  Reader-refused,
+  Text-made,
+  Returned-as,
+  Catalogue-refused,
+  Catalogue-returned,
+  Mapped,
+  Drawn,
+  Order-clauses,
+  Contained,
+  Least-map-written,
+  Whole-catalogue,
+}
+use Rattle.demands.specs.RefusedLaws as refused
+use Rattle.demands.specs.EntryRefusals as entries
+use Rattle.demands.specs.CatalogueNumbers.{c-catalogue-refused}
+use Rattle.demands.specs.Coding.{accepted-refusal, back-exactly-least, yes-exactly-back}
+use Rattle.demands.specs.CodeWays.{
+  code-is-least,
+  code-drawn,
+  drawn-accepted,
+  drawn-coded,
+  code-accepted,
+  code-decodes,
+  equal-bytes-exactly-mapped,
+}
+use Rattle.demands.specs.Sameness.{yes-exactly-equal-bytes}
+use Rattle.demands.specs.WholeCatalogues.{whole-catalogue}
+use Rattle.demands.specs.Matches as matches
+use Rattle.demands.specs.Comparisons as comparisons
+use Rattle.demands.specs.OrderClauses.{order-clauses}
+
+-- THE FIRST DEMAND: every public entry, on any bytes of any length, gives its answer or the one refusal of the paper's table: the first
+-- place that applies, from the top, of two drawings or codes the first one's before the second's. A refusal writes nothing; only
+-- 15 of a catalogue leaves the whole lent output zero. (A call that lends no output has none before and none after.) The usual
+-- catalogue is `catalogue` at 2 and 4.
+pub record First-demand : Type 0 where
+  -- the checks: 1 to 8; 1, 14; these and then 2 to 8 with the drawing; 9 to 11
+  pub check-drawing : (xs : List ℕ) (c : Checked) → checked-number c ≡ drawing-refusal xs
+      → Refused-as (drawing-refusal xs) (checked-number c) 0 [] []
+  pub check-length : (bs : List ℕ) (c : Checked) → checked-number c ≡ length-refusal bs
+      → Refused-as (length-refusal bs) (checked-number c) 0 [] []
+  pub check-survey : (bs : List ℕ) (r : SurveyChecked) → Survey-answer (bytes-refusal bs) bs r → Survey-refused bs r
+  pub check-code : (bs : List ℕ) (c : Checked) → c ≡ code-checked bs → Refused-as (code-refusal bs) (checked-number c) 0 [] []
+  -- the reader
+  pub reader : (bs : RefT (List ℕ)) (r : Opened) → Opens bs r → Reader-refused bs r
+  -- coding and matching
+  pub code : (xs : List ℕ) (r : Written) (o z : List ℕ) → Code-says xs r o z
+      → Refused-as (first-of (drawing-refusal xs) (too-short (5 * length (drawing-in xs .cables)) o))
+      (written-numbers r .refusal) (written-numbers r .count) o z
+  pub decode : (bs : List ℕ) (r : Written) (o z : List ℕ) → Decode-says bs r o z
+      → Refused-as (first-of (code-refusal bs) (too-short 72 o)) (written-numbers r .refusal) (written-numbers r .count) o z
+  pub is-least : (bs : List ℕ) (v : Verdict) → Least-says bs v
+      → Refused-as (code-refusal bs) (verdict-numbers v .refusal) (verdict-numbers v .count) [] []
+  pub compare : (xs ys : List ℕ) (r : Compared) → Compare-says xs ys r
+      → Refused-as (first-of (code-refusal xs) (code-refusal ys)) (compared-numbers r .refusal) (compared-numbers r .count) [] []
+  pub match-drawing : (xs ys : List ℕ) (r : Matched) (o z : List ℕ) → Match-says xs ys r o z
+      → Refused-as (first-of (first-of (drawing-refusal xs) (drawing-refusal ys)) (too-short (devices (drawing-in xs)) o))
+      (match-refusal r) (match-count r) o z
+  pub same : (xs ys : List ℕ) (t : Sameness) → Same-says xs ys t
+      → Refused-as (first-of (drawing-refusal xs) (drawing-refusal ys)) (same-refusal t) (same-value t) [] []
+  -- 12, 13, 1, 14, then 2 to 8 with the drawing; then 15 exactly if the entries that the third demand gives do not fit
+  pub catalogue : (bs : List ℕ) (s l : ℕ) (r : Catalogued) (o z : List ℕ) → Catalogue-says bs s l r o z → Catalogue-refused bs s l r o z
+  -- the text of an answer has no refusal of the paper: it is made whole or not at all
+  pub text : (a : Catalogued) (es : List ℕ) (r : Printed) (o z : List ℕ) → Text-says a es r o z → Text-made (text-of a es) r o z
+  -- the same from C: refusal, count and drawing stand in the number that is returned
+  pub c-code : (xs : List ℕ) (x : ℕ) (o z : List ℕ) (c : Code-returns xs x o z)
+      → Returned-as (first-of (drawing-refusal xs) (too-short (5 * length (drawing-in xs .cables)) o)) x (written-numbers (c .answer) .count) o z
+  pub c-decode : (bs : List ℕ) (x : ℕ) (o z : List ℕ) (c : Decode-returns bs x o z)
+      → Returned-as (first-of (code-refusal bs) (too-short 72 o)) x (written-numbers (c .answer) .count) o z
+  pub c-is-least : (bs : List ℕ) (x : ℕ) (c : Least-returns bs x) → Returned-as (code-refusal bs) x (verdict-numbers (c .answer) .count) [] []
+  pub c-compare : (xs ys : List ℕ) (x : ℕ) (c : Compare-returns xs ys x)
+      → Returned-as (first-of (code-refusal xs) (code-refusal ys)) x (compared-numbers (c .answer) .count) [] []
+  pub c-match : (xs ys : List ℕ) (x : ℕ) (o z : List ℕ) (c : Match-returns xs ys x o z)
+      → Returned-as (first-of (first-of (drawing-refusal xs) (drawing-refusal ys)) (too-short (devices (drawing-in xs)) o)) x
+      (match-count (c .answer)) o z
+  pub c-same : (xs ys : List ℕ) (x : ℕ) (c : Same-returns xs ys x)
+      → Returned-as (first-of (drawing-refusal xs) (drawing-refusal ys)) x (same-value (c .answer)) [] []
+  pub c-catalogue : (bs : List ℕ) (s l x : ℕ) (o z : List ℕ) → Catalogue-returns bs s l x o z → Catalogue-returned bs s l x o z
+
+pub first-demand : First-demand
+first-demand =
+    record {
+      check-drawing = entries.check-drawing-refused;
+      check-length = entries.check-length-refused;
+      check-survey = entries.check-survey-refused;
+      check-code = entries.check-code-refused;
+      reader = entries.reader-refused;
+      code = refused.code-turned-back;
+      decode = refused.decode-turned-back;
+      is-least = refused.least-turned-back;
+      compare = refused.compare-turned-back;
+      match-drawing = refused.match-turned-back;
+      same = refused.same-turned-back;
+      catalogue = refused.catalogue-turned-back;
+      text = entries.text-made;
+      c-code = entries.c-code-refused;
+      c-decode = entries.c-decode-refused;
+      c-is-least = entries.c-least-refused;
+      c-compare = entries.c-compare-refused;
+      c-match = entries.c-match-refused;
+      c-same = entries.c-same-refused;
+      c-catalogue = c-catalogue-refused;
+    }
+
+-- A CALL OF CODING with an accepted drawing and bytes enough; one of decoding with an accepted code and bytes enough
+pub record Coding-call (xs : List ℕ) (r : Written) (o z : List ℕ) : Type 0 where
+  pub drawing : accepted xs ≡ true
+  pub room : 5 * length (drawing-in xs .cables) ≤ length o
+  pub says : Code-says xs r o z
+
+pub record Decoding-call (bs : List ℕ) (r : Written) (o z : List ℕ) : Type 0 where
+  pub bytes : byte-list bs ≡ true
+  pub code : code-refusal bs ≡ 0
+  pub room : 72 ≤ length o
+  pub says : Decode-says bs r o z
+
+-- a code decoded, and what it decodes to coded again
+pub record Round-call (bs : List ℕ) (r s : Written) (o p z w : List ℕ) : Type 0 where
+  pub decoding : Decoding-call bs r o z
+  pub room : length bs ≤ length p
+  pub says : Code-says (written-bytes r z) s p w
+
+-- THE SECOND DEMAND
+pub record Second-demand : Type 0 where
+  -- the code of an accepted drawing is that one of all its DFS codes which comes before every other of them
+  pub code-is-least : {xs : List ℕ} {r : Written} {o z : List ℕ} → Coding-call xs r o z → Least-written (drawing-in xs) r o z
+  -- a code decodes to the drawing that it describes: an accepted one, of which it is a DFS code
+  pub decodes : {bs : List ℕ} {r : Written} {o z : List ℕ} → Decoding-call bs r o z
+      → Drawn (code-records bs) r o z × (drawing-refusal (written-bytes r z) ≡ 0) × Code-of (drawing-in (written-bytes r z)) (code-records bs)
+  -- every row of 1 to 20 records that reads as a code is accepted, and if it is one of an accepted drawing it decodes to that drawing
+  pub every-code : (rs : List Rec) → rows-good rs ≡ true → code-refusal (rec-bytes rs) ≡ 0
+  pub every-code-decodes : (xs : List ℕ) (rs : List Rec) → accepted xs ≡ true → Code-of (drawing-in xs) rs
+      → (r : Written) (o z : List ℕ) → 72 ≤ length o → Decode-says (rec-bytes rs) r o z → Mapped (drawing-in (written-bytes r z)) (drawing-in xs)
+  -- coding what a code decodes to gives the code back exactly when it was the least, and the least test answers yes exactly then
+  pub back-when-least : {bs : List ℕ} {r s : Written} {o p z w : List ℕ} → Round-call bs r s o p z w
+      → (written-bytes s w ≡ bs → Least (decoded (code-records bs)) (code-records bs))
+      × (Least (decoded (code-records bs)) (code-records bs) → written-bytes s w ≡ bs)
+  pub yes-when-back : {bs : List ℕ} {r s : Written} {o p z w : List ℕ} → Round-call bs r s o p z w → (v : Verdict) → Least-says bs v
+      → (v ≡ verdict.Yes → written-bytes s w ≡ bs) × (written-bytes s w ≡ bs → v ≡ verdict.Yes)
+
+pub second-demand : Second-demand
+second-demand =
+    record {
+      code-is-least = λ {xs} {r} {o} {z} c. code-is-least xs r o z (accepted-refusal xs (c .drawing)) (c .room) (c .says);
+      decodes = λ {bs} {r} {o} {z} c. (
+        code-drawn bs r o z (c .code) (c .room) (c .says),
+        drawn-accepted bs r o z (c .code) (c .room) (c .says) (c .bytes),
+        drawn-coded bs r o z (c .code) (c .room) (c .says) (c .bytes),
+      );
+      every-code = code-accepted;
+      every-code-decodes = code-decodes;
+      back-when-least = λ {bs} {r} {s} {o} {p} {z} {w} c.
+          let d = c .decoding in back-exactly-least bs (d .bytes) (d .code) o p (d .room) (c .room) z w r s (d .says) (c .says);
+      yes-when-back = λ {bs} {r} {s} {o} {p} {z} {w} c v says.
+          let d = c .decoding in yes-exactly-back bs (d .bytes) (d .code) o p (d .room) (c .room) z w r s (d .says) (c .says) v says;
+    }
+
+-- THE THIRD DEMAND
+pub record Third-demand : Type 0 where
+  -- two accepted drawings get equal code bytes exactly when a map sends the devices of one one to one onto all devices of the
+  -- other, kinds equal, with cables of equal kinds between them both ways; and exactly then they are told to be the same
+  pub equal-codes : {xs ys : List ℕ} {r s : Written} {o p z w : List ℕ} → Coding-call xs r o z → Coding-call ys s p w
+      → (written-bytes r z ≡ written-bytes s w → Mapped (drawing-in xs) (drawing-in ys))
+      × (Mapped (drawing-in xs) (drawing-in ys) → written-bytes r z ≡ written-bytes s w)
+  pub same-tells : {xs ys : List ℕ} {r s : Written} {o p z w : List ℕ} → Coding-call xs r o z → Coding-call ys s p w
+      → (t : Sameness) → Same-says xs ys t
+      → (t ≡ sameness.Yes → written-bytes r z ≡ written-bytes s w) × (written-bytes r z ≡ written-bytes s w → t ≡ sameness.Yes)
+  -- a catalogue that is written to its end: each pattern of at most l cables that at least s drawings contain has just one entry,
+  -- with its least code and its support, there is no other entry, and codes rise (`Whole-catalogue`, field by field)
+  pub catalogue : (bs : List ℕ) (s l n : ℕ) (o z : List ℕ) → Catalogue-says bs s l (Entries n) o z → Whole-catalogue bs s l n o z
+
+pub third-demand : Third-demand
+third-demand =
+    record {
+      equal-codes = λ {xs} {ys} {r} {s} {o} {p} {z} {w} a b.
+          equal-bytes-exactly-mapped xs ys (a .drawing) (b .drawing) o p (a .room) (b .room) z w r s (a .says) (b .says);
+      same-tells = λ {xs} {ys} {r} {s} {o} {p} {z} {w} a b t says.
+          yes-exactly-equal-bytes xs ys (a .drawing) (b .drawing) o p (a .room) (b .room) z w r s (a .says) (b .says) t says;
+      catalogue = whole-catalogue;
+    }
+
+-- THE MATCHING RULE: the map written is the least of all maps, and "not contained" comes exactly if no map exists
+pub record Matching-rule : Type 0 where
+  pub map-written : (xs ys : List ℕ) (n : ℕ) (o z : List ℕ) → Match-says xs ys (matched.Map n) o z
+      → Least-map-written (drawing-in xs) (drawing-in ys) n o z
+  pub no-map : (xs ys : List ℕ) (r : Matched) (o z : List ℕ) → drawing-refusal xs ≡ 0 → drawing-refusal ys ≡ 0
+      → devices (drawing-in xs) ≤ length o → Match-says xs ys r o z → r ≡ matched.NotContained → Contained (drawing-in xs) (drawing-in ys) → ⊥
+  pub not-contained : (xs ys : List ℕ) (r : Matched) (o z : List ℕ) → drawing-refusal xs ≡ 0 → drawing-refusal ys ≡ 0
+      → devices (drawing-in xs) ≤ length o → Match-says xs ys r o z
+      → (Contained (drawing-in xs) (drawing-in ys) → ⊥) → r ≡ matched.NotContained
+
+pub matching-rule : Matching-rule
+matching-rule = record { map-written = matches.map-written; no-map = matches.no-map; not-contained = matches.not-contained }
+
+-- THE ORDER RULE: the order is the one of Yan and Han, and comparing two accepted codes tells it; equal exactly when the bytes are
+pub record Order-rule : Type 0 where
+  pub clauses : Order-clauses
+  pub equal : (xs ys : List ℕ) (r : Compared) → code-refusal xs ≡ 0 → code-refusal ys ≡ 0 → Compare-says xs ys r
+      → (r ≡ compared.Equal → xs ≡ ys) × (xs ≡ ys → r ≡ compared.Equal)
+  pub first-before : (xs ys : List ℕ) (r : Compared) → code-refusal xs ≡ 0 → code-refusal ys ≡ 0 → Compare-says xs ys r
+      → (r ≡ compared.Before → before (code-records xs) (code-records ys) ≡ true)
+      × (before (code-records xs) (code-records ys) ≡ true → r ≡ compared.Before)
+  pub first-after : (xs ys : List ℕ) (r : Compared) → code-refusal xs ≡ 0 → code-refusal ys ≡ 0 → Compare-says xs ys r
+      → (r ≡ compared.After → before (code-records ys) (code-records xs) ≡ true)
+      × (before (code-records ys) (code-records xs) ≡ true → r ≡ compared.After)
+
+pub order-rule : Order-rule
+order-rule =
+    record {
+      clauses = order-clauses;
+      equal = λ xs ys r a b says. (comparisons.if-equal xs ys r a b says, comparisons.equal-if xs ys r a b says);
+      first-before = λ xs ys r a b says. (comparisons.if-before xs ys r a b says, comparisons.before-if xs ys r a b says);
+      first-after = λ xs ys r a b says. (comparisons.if-after xs ys r a b says, comparisons.after-if xs ys r a b says);
+    }

@@ -1,0 +1,195 @@
+-- The terms of Demands.antt: the bytes that a call writes, what a refused call leaves, the map of demand 3, what decoding leaves,
+-- support as a number of embeddings, and a catalogue that is whole. Assumes nothing: these are definitions.
+use mathlib.Core.Path.{_≡_}
+use mathlib.Core.Bool.{Bool, true, false, cond}
+use mathlib.Core.List.{List, [], _∷_, _++_}
+use mathlib.Core.Logic.{_⊎_}
+use Prim.Native.Nat.{ℕ, _*_, _/_, _%_, _≤_, _<_}
+use lib.Dec.{ltb}
+use lib.ListN.{length, getD, take, drop, replicate}
+use denote.Ref.{RefT, now}
+use Rattle.laws.specs.Rows.{row}
+use Rattle.graphs.specs.Drawing.{Drawing, devices, drawing-in, drawing-bytes}
+use Rattle.graphs.specs.Map.{map-before}
+use Rattle.graphs.specs.Graph.{Pattern}
+use Rattle.graphs.specs.Embedding.{Embedding}
+use Rattle.graphs.specs.Isomorphisms.{Demand-map}
+use Rattle.graphs.specs.Survey.{survey, length-refusal, bytes-refusal, survey-refusal, count-true}
+use Rattle.codes.specs.Code.{Rec, recs-in, decoded, Code-of, Least, rec-before, before}
+use Rattle.growth.specs.Catalogue.{Entry, entry, Catalogue, entry-bytes, all-bytes}
+use Rattle.records.specs.declared.refusal.Refusal.the-variants.{OutputLength}
+use Rattle.coding.specs.declared.answer.Written.{Written}
+use Rattle.coding.specs.declared.answer.Written.the-variants as written
+use Rattle.laws.specs.Lent.{in-front}
+use Rattle.records.specs.declared.catalogued.Catalogued.{Catalogued}
+use Rattle.records.specs.declared.catalogued.Catalogued.the-variants.{Entries, Refused}
+use Rattle.records.specs.Catalogued.{catalogued-refusal, catalogued-count}
+use Rattle.records.specs.declared.survey.SurveyChecked.{SurveyChecked}
+use Rattle.records.specs.declared.survey.SurveyChecked.the-variants as survey-check
+use Rattle.records.specs.Refusals.{checked-number}
+use Rattle.records.specs.Surveys.{survey-checked}
+use Rattle.reader.specs.declared.reader.Opened.{Opened}
+use Rattle.reader.specs.declared.reader.Fetched.{Fetched}
+use Rattle.reader.specs.Readers.{Fetches, Fetch-gives}
+use Rattle.printing.specs.declared.answer.Printed.{Printed}
+use Rattle.printing.specs.declared.answer.Printed.the-variants as printed
+
+-- THE BYTES a call answers with: those it wrote in front, none where it refuses
+abbrev pub written-bytes : Written → (out-now : List ℕ) → List ℕ
+written-bytes (written.Bytes n) z = take n z
+written-bytes (written.Refused r) z = []
+
+-- 15: too short for the whole answer
+abbrev pub too-short : (needed : ℕ) → (out : List ℕ) → ℕ
+too-short n o = cond (ltb (length o) n) 15 0
+
+-- THE REFUSAL of a call is this number, 0 for an answer; a refusal counts nothing and writes nothing
+pub record Refused-as (number refusal count : ℕ) (out out-now : List ℕ) : Type 0 where
+  pub one : refusal ≡ number
+  pub uncounted : 0 < number → count ≡ 0
+  pub untouched : 0 < number → out-now ≡ out
+
+-- OF A CHECK OF A SURVEY: the refusal with the drawing at fault, or how many drawings there are
+pub record Survey-refused (bs : List ℕ) (r : SurveyChecked) : Type 0 where
+  pub one : survey-checked r ≡ bytes-refusal bs
+  pub counted : bytes-refusal bs .number ≡ 0 → r ≡ survey-check.Accepted (length bs / 72)
+
+-- OF OPENING AND FETCHING: opening checks the length place alone; where that refuses, each fetch is 14; else a fetch is 14 exactly if d
+-- is not below the number of drawings, and a refused fetch gives an empty part
+pub record Reader-refused (bs : RefT (List ℕ)) (r : Opened) : Type 0 where
+  pub one : checked-number (r .checked) ≡ length-refusal (now bs)
+  pub no-drawings : 0 < length-refusal (now bs) → (d : ℕ) (f : Fetched) → Fetches (r .reader) d f → Fetch-gives f 14 []
+  pub past : length-refusal (now bs) ≡ 0 → (d : ℕ) (f : Fetched) → Fetches (r .reader) d f → length (now bs) / 72 ≤ d → Fetch-gives f 14 []
+  pub fetched :
+      length-refusal (now bs) ≡ 0 → (d : ℕ) (f : Fetched) → Fetches (r .reader) d f → d < length (now bs) / 72 → Fetch-gives f 0 (row 72 d (now bs))
+
+-- OF A TEXT: it is made whole, or nothing is written
+pub record Text-made (text : List ℕ) (r : Printed) (out out-now : List ℕ) : Type 0 where
+  pub short : length out < length text → (r ≡ printed.TooShort) × (out-now ≡ out)
+  pub enough : length text ≤ length out → (r ≡ printed.Bytes (length text)) × (out-now ≡ in-front text out)
+
+-- OF A C CALL: the number returned has the refusal in bits 32 to 39, the count below and the drawing above
+abbrev pub returned-refusal : ℕ → ℕ
+returned-refusal x = x / 4294967296 % 256
+
+abbrev pub returned-count : ℕ → ℕ
+returned-count x = x % 4294967296
+
+abbrev pub returned-drawing : ℕ → ℕ
+returned-drawing x = x / 1099511627776
+
+pub record Returned-as (number x count : ℕ) (out out-now : List ℕ) : Type 0 where
+  pub refused : Refused-as number (returned-refusal x) (returned-count x) out out-now
+  pub counted : returned-count x ≡ count
+  pub no-drawing : returned-drawing x ≡ 0
+
+-- OF A CATALOGUE: settings and survey come first, and are refused with the drawing at fault; then 15 exactly where the entries
+-- of the survey's one catalogue do not fit, and every lent byte is zero
+pub record Catalogue-refused (bs : List ℕ) (s l : ℕ) (r : Catalogued) (out out-now : List ℕ) : Type 0 where
+  pub early :
+      0 < survey-refusal bs s l .number → (catalogued-refusal r ≡ survey-refusal bs s l) × (catalogued-count r ≡ 0) × (out-now ≡ out)
+  pub there : survey-refusal bs s l .number ≡ 0 → (es : List Entry) × Catalogue (survey bs) s l es
+  pub short :
+      survey-refusal bs s l .number ≡ 0 → (es : List Entry) → Catalogue (survey bs) s l es → length out < 42 * length es
+      → (r ≡ Refused OutputLength 0) × (out-now ≡ replicate (length out) 0)
+  pub enough :
+      survey-refusal bs s l .number ≡ 0 → (es : List Entry) → Catalogue (survey bs) s l es → 42 * length es ≤ length out
+      → (r ≡ Entries (length es)) × (out-now ≡ in-front (all-bytes es) out)
+
+-- the same from C
+pub record Catalogue-returned (bs : List ℕ) (s l x : ℕ) (out out-now : List ℕ) : Type 0 where
+  pub early :
+      0 < survey-refusal bs s l .number
+      → (returned-refusal x ≡ survey-refusal bs s l .number) × (returned-drawing x ≡ survey-refusal bs s l .drawing)
+      × (returned-count x ≡ 0) × (out-now ≡ out)
+  pub short :
+      survey-refusal bs s l .number ≡ 0 → (es : List Entry) → Catalogue (survey bs) s l es → length out < 42 * length es
+      → (returned-refusal x ≡ 15) × (returned-drawing x ≡ 0) × (returned-count x ≡ 0) × (out-now ≡ replicate (length out) 0)
+  pub enough :
+      survey-refusal bs s l .number ≡ 0 → (es : List Entry) → Catalogue (survey bs) s l es → 42 * length es ≤ length out
+      → (returned-refusal x ≡ 0) × (returned-drawing x ≡ 0) × (returned-count x ≡ length es) × (out-now ≡ in-front (all-bytes es) out)
+
+-- THE MAP OF DEMAND 3, sentence by sentence in `Demand-map`: there is one
+abbrev pub Mapped : (d e : Drawing) → Type 0
+Mapped d e = (f : List ℕ) × Demand-map d e f
+
+-- DECODED: what is written is the record of the drawing that the code describes, and lent bytes past it keep their content
+pub record Drawn (rs : List Rec) (r : Written) (out out-now : List ℕ) : Type 0 where
+  pub bytes : written-bytes r out-now ≡ drawing-bytes (decoded rs)
+  pub drawing : drawing-in (written-bytes r out-now) ≡ decoded rs
+  pub output : out-now ≡ in-front (drawing-bytes (decoded rs)) out
+
+-- THE ORDER OF CODES of Yan and Han, clause by clause
+pub record Order-clauses : Type 0 where
+  -- two records: backward before forward; two backward: smaller j first; two forward: greater i first
+  pub backward-first : (e f : Rec) → e .j < e .i → f .i < f .j → rec-before e f ≡ true
+  pub smaller-j : (e f : Rec) → e .j < e .i → f .j < f .i → e .j < f .j → rec-before e f ≡ true
+  pub greater-i : (e f : Rec) → e .i < e .j → f .i < f .j → f .i < e .i → rec-before e f ≡ true
+  -- same i and j: kind of i, then cable kind, then kind of j, smaller first
+  pub kind-of-i : (e f : Rec) → e .i ≡ f .i → e .j ≡ f .j → e .ki < f .ki → rec-before e f ≡ true
+  pub cable-kind : (e f : Rec) → e .i ≡ f .i → e .j ≡ f .j → e .ki ≡ f .ki → e .c < f .c → rec-before e f ≡ true
+  pub kind-of-j : (e f : Rec) → e .i ≡ f .i → e .j ≡ f .j → e .ki ≡ f .ki → e .c ≡ f .c → e .kj < f .kj → rec-before e f ≡ true
+  -- two codes: at the first record that differs; a code that begins another comes before it
+  pub first-difference : (rs : List Rec) (e f : Rec) (ss ts : List Rec) → (e ≡ f → ⊥) → before (rs ++ (e ∷ ss)) (rs ++ (f ∷ ts)) ≡ rec-before e f
+  pub beginning : (rs : List Rec) (e : Rec) (ss : List Rec) → before rs (rs ++ (e ∷ ss)) ≡ true
+  -- no code comes before itself; of two others just one comes before the other; and what is before a code before another is before that
+  pub irreflexive : (rs : List Rec) → before rs rs ≡ false
+  pub one-first : (rs ss : List Rec) → (rs ≡ ss → ⊥) → (before rs ss ≡ true) ⊎ (before ss rs ≡ true)
+  pub transitive : (rs ss ts : List Rec) → before rs ss ≡ true → before ss ts ≡ true → before rs ts ≡ true
+
+-- CONTAINED: some map sends p's devices to different devices of d, kinds equal, each cable on a cable of equal kind
+abbrev pub Contained : (p d : Drawing) → Type 0
+Contained p d = (f : List ℕ) × Embedding p d f
+
+-- THE LEAST MAP, written in front: an embedding that comes before every other at the first byte that differs, a byte for each device
+pub record Least-map-written (p d : Drawing) (n : ℕ) (out out-now : List ℕ) : Type 0 where
+  pub map : List ℕ
+  pub embeds : Embedding p d map
+  pub least : (g : List ℕ) → Embedding p d g → (g ≡ map → ⊥) → map-before map g ≡ true
+  pub count : n ≡ length map
+  pub devices-all : n ≡ devices p
+  pub output : out-now ≡ in-front map out
+
+-- SUPPORT: n of the drawings contain p. A mark for each drawing says whether it does, and n of the marks say yes.
+pub record Supported (p : Drawing) (ds : List Drawing) (n : ℕ) : Type 0 where
+  pub marks : List Bool
+  pub size : length marks ≡ length ds
+  pub yes : (k : ℕ) (none : Drawing) → k < length ds → getD marks k false ≡ true → Contained p (getD ds k none)
+  pub no : (k : ℕ) (none : Drawing) → k < length ds → getD marks k false ≡ false → Contained p (getD ds k none) → ⊥
+  pub counts : n ≡ count-true marks
+
+-- ENTRIES of the output, 42 bytes each: number of cables, support, then that many records
+unfoldable pub entry-of : List ℕ → Entry
+entry-of bs = entry (getD bs 1 0) (recs-in (getD bs 0 0) (drop 2 bs))
+
+unfoldable pub entry-in : (k : ℕ) → (output : List ℕ) → Entry
+entry-in k z = entry-of (row 42 k z)
+
+-- An entry is one for a pattern if the records that its number of cables counts are a DFS code of that pattern.
+abbrev pub Entry-for : (p : Drawing) → (output : List ℕ) → (k : ℕ) → Type 0
+Entry-for p z k = Code-of p (entry-in k z .code)
+
+-- A WHOLE CATALOGUE of n entries in the lent bytes z, which were o before the call. A pattern is a simple graph of 2 to 10 devices
+-- and 1 to 20 cables in which a walk joins every two devices (`Pattern`).
+pub record Whole-catalogue (bs : List ℕ) (s l n : ℕ) (o z : List ℕ) : Type 0 where
+  -- a pattern of 1 to l cables that at least s drawings contain has an entry
+  pub there :
+      (p : Drawing) → Pattern p → length (p .cables) ≤ l → (m : ℕ) → Supported p (survey bs) m → s ≤ m
+      → (k : ℕ) × (k < n) × Entry-for p z k
+  -- and no other has
+  pub frequent : (p : Drawing) → Pattern p → (k : ℕ) → k < n → Entry-for p z k → (length (p .cables) ≤ l) × (s ≤ entry-in k z .support)
+  -- no more than one
+  pub once : (p : Drawing) → Pattern p → (j k : ℕ) → j < n → k < n → Entry-for p z j → Entry-for p z k → j ≡ k
+  -- with its least code and its support
+  pub least :
+      (p : Drawing) → Pattern p → (k : ℕ) → k < n → Entry-for p z k
+      → Least p (entry-in k z .code) × Supported p (survey bs) (entry-in k z .support)
+  -- there is no entry that is one for no pattern
+  pub sound : (k : ℕ) → k < n → (p : Drawing) × Pattern p × Entry-for p z k
+  -- codes rise
+  pub rise : (j k : ℕ) → j < k → k < n → before (entry-in j z .code) (entry-in k z .code) ≡ true
+  -- the bytes are those of the entries, and what they were past the last one
+  pub bytes : (k : ℕ) → k < n → row 42 k z ≡ entry-bytes (entry-in k z)
+  pub room : 42 * n ≤ length z
+  pub size : length z ≡ length o
+  pub kept : drop (42 * n) z ≡ drop (42 * n) o

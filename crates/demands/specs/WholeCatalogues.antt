@@ -1,0 +1,217 @@
+-- A catalogue that is written to its end is whole, as the third demand asks: that follows from what the call says, and from nothing
+-- else. Rests on least codes. Assumes nothing.
+use mathlib.Core.Path.{_≡_, refl, sym, ap, subst, _∙_}
+use mathlib.Core.Bool.{Bool, true, false}
+use mathlib.Core.List.{List, [], _∷_, map}
+use Prim.Native.Nat.{ℕ, zero, suc, _*_, _≤_, _<_}
+use native.Mathlib.Nat.{not-suc-le-zero, le-of-suc-le-suc}
+use native.Mathlib.Omega.{arith}
+use lib.Dec.{ltb, eqb}
+use lib.ListN.{length, getD, drop, length-append, length-drop, length-map, List·getD-map}
+use lib.Seq.{drop-at}
+use borrow.Author.Tests.{ltb-true, ltb-false, eqb-true}
+use Rattle.laws.specs.Tests.{Three, less, same, more, compare-numbers}
+use Rattle.laws.specs.Lists.{Mem, mem-at, place}
+use Rattle.laws.specs.Rising.{Rises, rises-head, rises-tail}
+use Rattle.laws.specs.Rows.{row}
+use Rattle.graphs.specs.Drawing.{Drawing, is-pattern}
+use Rattle.graphs.specs.Map.{Same}
+use Rattle.graphs.specs.Survey as surveys
+use Rattle.graphs.specs.Survey.{survey, survey-refusal, support}
+use Rattle.graphs.specs.Graph.{Simple, Pattern}
+use Rattle.graphs.specs.Patterns.{pattern-from-test, pattern-to-test}
+use Rattle.graphs.specs.Containment.{same-support}
+use Rattle.codes.specs.Code.{Rec, Code-of, Least, before, kinds-before}
+use Rattle.codes.specs.CodeOrder.{kinds-order, before-strict}
+use Rattle.codes.specs.FullCode.{coded-from-test, coded-length, least-unique}
+use Rattle.codes.specs.LeastCode.{least-code-there}
+use Rattle.codes.specs.CodesTell.{code-along, code-makes-same}
+use Rattle.growth.specs.Catalogue.{Entry, entry, Frequent-entry, Catalogue, entry-bytes, all-bytes}
+use Rattle.growth.specs.Settings.{accepted-settings}
+use Rattle.records.specs.declared.refusal.Refusal.{Refusal}
+use Rattle.records.specs.declared.refusal.Refusal.the-variants.{OutputLength}
+use Rattle.records.specs.Refusals.{number-of, number-positive}
+use Rattle.laws.specs.Lent.{in-front}
+use Rattle.records.specs.declared.catalogued.Catalogued.{Catalogued}
+use Rattle.records.specs.declared.catalogued.Catalogued.the-variants.{Entries, Refused}
+use Rattle.records.specs.Catalogued.{catalogued-count, catalogued-refusal}
+use Rattle.mining.specs.CatalogueSays.{Entries-written, Catalogue-as, Catalogue-says}
+use Rattle.demands.specs.Terms.{entry-in, Entry-for, Supported, Whole-catalogue}
+use Rattle.demands.specs.Supports.{supported, supported-is}
+use Rattle.demands.specs.ReadEntries.{all-bytes-length, bytes-at, entry-at}
+
+-- WHAT A FREQUENT ENTRY SAYS of any pattern that it is one for
+pub record Entry-says (ds : List Drawing) (s l : ℕ) (e : Entry) (p : Drawing) : Type 0 where
+  pub size : length (p .cables) ≤ l
+  pub frequent : s ≤ support p ds
+  pub least : Least p (e .code)
+  pub support-is : e .support ≡ support p ds
+
+pub entry-says :
+    (ds : List Drawing) (s l : ℕ) (e : Entry) → Frequent-entry kinds-before ds s l e → (p : Drawing) → is-pattern p ≡ true
+    → Code-of p (e .code) → Entry-says ds s l e p
+entry-says ds s l e f p k c =
+    record {
+      size = omega (arith, f .size, coded-length p simple (e .code) (coded-from-test p simple (e .code) c));
+      frequent = omega (arith, f .frequent, counts);
+      least = record { code = c; least = λ ss g. f .least .least ss (code-along p q simple plain ss alike g) };
+      support-is = counts;
+    }
+  where
+    q : Drawing
+    q = f .pattern
+
+    simple : Simple p
+    simple = pattern-from-test p k .simple
+
+    plain : Simple q
+    plain = pattern-from-test q (f .is-one) .simple
+
+    alike : Same p q
+    alike = code-makes-same p q simple plain (e .code) c (f .least .code)
+
+    counts : e .support ≡ support p ds
+    counts = sym (same-support p q (simple .ends) (plain .ends) alike ds ∙ f .support-is)
+
+-- each element of a rising list comes before those further on
+rises-at :
+    {A : Type 0} (lt : A → A → Bool) (d : A) (xs : List A) → Rises lt xs → (j k : ℕ) → j < k → k < length xs
+    → lt (getD xs j d) (getD xs k d) ≡ true
+rises-at lt d [] r j k h g = absurd (not-suc-le-zero g)
+rises-at lt d (x ∷ xs) r j zero h g = absurd (not-suc-le-zero h)
+rises-at lt d (x ∷ xs) r zero (suc k) h g = rises-head lt x xs r (getD xs k d) (mem-at d xs k (le-of-suc-le-suc g))
+rises-at lt d (x ∷ xs) r (suc j) (suc k) h g = rises-at lt d xs (rises-tail lt x xs r) j k (le-of-suc-le-suc h) (le-of-suc-le-suc g)
+
+-- entries are answered with number 0, a refusal with another
+entries-number : (n : ℕ) → catalogued-refusal (Entries n) .number ≡ 0
+unfolding surveys.refusal
+entries-number n = refl
+
+refused-number : (r : Refusal) (d : ℕ) → catalogued-refusal (Refused r d) .number ≡ number-of r
+unfolding surveys.refusal
+refused-number r d = refl
+
+-- A CATALOGUE THAT IS WRITTEN TO ITS END
+record Finished (bs : List ℕ) (s l n : ℕ) (o z : List ℕ) : Type 0 where
+  es : List Entry
+  catalogue : Catalogue (survey bs) s l es
+  limit : l ≤ 8
+  count : n ≡ length es
+  room : 42 * length es ≤ length o
+  output : z ≡ in-front (all-bytes es) o
+
+finished : (bs : List ℕ) (s l n : ℕ) (o z : List ℕ) → Catalogue-says bs s l (Entries n) o z → Finished bs s l n o z
+finished bs s l n o z says = go (survey-refusal bs s l .number) refl says
+  where
+    written :
+        (es : List Entry) (t : Bool) → ltb (length o) (42 * length es) ≡ t → Entries-written t es (Entries n) o z
+        → (n ≡ length es) × (42 * length es ≤ length o) × (z ≡ in-front (all-bytes es) o)
+    written es true e (r, w) =
+        absurd
+        (omega (
+          arith,
+          sym (entries-number n) ∙ ap (λ (c : Catalogued). catalogued-refusal c .number) r ∙ refused-number OutputLength 0,
+          number-positive OutputLength,
+        ))
+    written es false e (r, w) = (ap catalogued-count r, ltb-false (length o) (42 * length es) e, w)
+
+    go :
+        (m : ℕ) → survey-refusal bs s l .number ≡ m → Catalogue-as m (survey-refusal bs s l) (survey bs) s l (Entries n) o z
+        → Finished bs s l n o z
+    go zero e (es, c, w) =
+        let t = written es (ltb (length o) (42 * length es)) refl w in
+        record { es = es; catalogue = c; limit = accepted-settings bs s l e .limit-high; count = t .0; room = t .1; output = t .2 }
+    go (suc m) e (r, w) = absurd (omega (arith, sym (entries-number n) ∙ ap (λ (f : surveys.Refusal). f .number) r ∙ e))
+
+module _ (bs : List ℕ) (s l n : ℕ) (o z : List ℕ) (f : Finished bs s l n o z) where
+  abbrev none : Entry
+  none = entry 0 []
+
+  few : (e : Entry) → Mem e (f .es) → length (e .code) ≤ 8
+  few e m = omega (arith, f .catalogue .sound e m .size, f .limit)
+
+  -- the lent bytes past the entries
+  abbrev rest : List ℕ
+  rest = drop (length (all-bytes (f .es))) o
+
+  front : length (all-bytes (f .es)) ≡ 42 * n
+  front = all-bytes-length (f .es) few ∙ ap (λ (k : ℕ). 42 * k) (sym (f .count))
+
+  is-entry : (k : ℕ) → k < n → entry-in k z ≡ getD (f .es) k none
+  is-entry k h = ap (entry-in k) (f .output) ∙ entry-at (f .es) few rest none k (omega (arith, f .count))
+
+  entry-frequent : (k : ℕ) → k < n → Frequent-entry kinds-before (survey bs) s l (entry-in k z)
+  entry-frequent k h = f .catalogue .sound (entry-in k z) (rw (is-entry k h) (mem-at none (f .es) k (omega (arith, f .count))))
+
+  says-of : (p : Drawing) → is-pattern p ≡ true → (k : ℕ) → k < n → Entry-for p z k → Entry-says (survey bs) s l (entry-in k z) p
+  says-of p i k h c = entry-says (survey bs) s l (entry-in k z) (entry-frequent k h) p i c
+
+  rise : (j k : ℕ) → j < k → k < n → before (entry-in j z .code) (entry-in k z .code) ≡ true
+  rise j k h g =
+      rw (is-entry j (omega arith), is-entry k g, ← code-at j, ← code-at k)
+      (rises-at before [] codes (f .catalogue .rise) j k h (omega (arith, f .count, length-map (f .es) (λ (e : Entry). e .code))))
+    where
+      codes : List (List Rec)
+      codes = map (λ (e : Entry). e .code) (f .es)
+
+      code-at : (k : ℕ) → getD codes k [] ≡ getD (f .es) k none .code
+      code-at k = List·getD-map (λ (e : Entry). e .code) (f .es) k none
+
+  there : (p : Drawing) → is-pattern p ≡ true → length (p .cables) ≤ l → s ≤ support p (survey bs) → (k : ℕ) × (k < n) × Entry-for p z k
+  there p i h g =
+      let t = least-code-there kinds-before kinds-order p (pattern-from-test p i) in
+      let w = place none (f .catalogue .whole p (t .0) i h g (t .1)) in
+      let below : w .i < n = omega (arith, w .below, f .count) in
+      (w .i, below, rw (is-entry (w .i) below, w .is) (t .1 .code))
+
+  once : (p : Drawing) → is-pattern p ≡ true → (j k : ℕ) → j < n → k < n → Entry-for p z j → Entry-for p z k → j ≡ k
+  once p i j k a b c d = go (compare-numbers j k)
+    where
+      same-code : entry-in j z .code ≡ entry-in k z .code
+      same-code =
+          least-unique kinds-before kinds-order p (entry-in j z .code) (entry-in k z .code) (says-of p i j a c .least) (says-of p i k b d .least)
+
+      apart : (j k : ℕ) → k < n → entry-in j z .code ≡ entry-in k z .code → j < k → ⊥
+      apart j k h e g = before-strict kinds-before kinds-order .irrefl (entry-in k z .code) (rw e at (rise j k g h))
+
+      go : Three (ltb j k ≡ true) (eqb j k ≡ true) (ltb k j ≡ true) → j ≡ k
+      go (less h) = absurd (apart j k b same-code (ltb-true j k h))
+      go (same h) = eqb-true j k h
+      go (more h) = absurd (apart k j a (sym same-code) (ltb-true k j h))
+
+  output-size : length z ≡ length o
+  output-size =
+      ap length (f .output)
+      ∙ omega (
+        arith,
+        length-append (all-bytes (f .es)) rest,
+        length-drop (length (all-bytes (f .es))) o,
+        front,
+        f .count,
+        f .room,
+      )
+
+  -- in the words of the demand: a pattern as a graph, support as a number of embeddings
+  demanded : Whole-catalogue bs s l n o z
+  demanded =
+      record {
+        there = λ p i h m q g. there p (pattern-to-test p i) h (omega (arith, supported-is p i (survey bs) m q));
+        frequent = λ p i k h c.
+            let t = says-of p (pattern-to-test p i) k h c in (t .size, omega (arith, t .frequent, t .support-is));
+        once = λ p i. once p (pattern-to-test p i);
+        least = λ p i k h c.
+            let t = says-of p (pattern-to-test p i) k h c in
+            (t .least, subst (Supported p (survey bs)) (sym (t .support-is)) (supported p i (survey bs)));
+        sound = λ k h. let t = entry-frequent k h in (t .pattern, pattern-from-test (t .pattern) (t .is-one), t .least .code);
+        rise = rise;
+        bytes = λ k h. ap (row 42 k) (f .output) ∙ bytes-at (f .es) few rest none k (omega (arith, f .count)) ∙ ap entry-bytes (sym (is-entry k h));
+        room = omega (arith, f .count, f .room, output-size);
+        size = output-size;
+        kept =
+            ap (drop (42 * n)) (f .output) ∙ drop-at (all-bytes (f .es)) rest (42 * n) front
+            ∙ ap (λ (k : ℕ). drop k o) front;
+      }
+
+-- ONE THEOREM: a catalogue that the call says to have n entries is whole
+pub whole-catalogue : (bs : List ℕ) (s l n : ℕ) (o z : List ℕ) → Catalogue-says bs s l (Entries n) o z → Whole-catalogue bs s l n o z
+whole-catalogue bs s l n o z says = demanded bs s l n o z (finished bs s l n o z says)

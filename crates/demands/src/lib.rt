@@ -1,0 +1,1 @@
+// Theory alone: the demands as theorems over bytes, above the libraries that meet them.

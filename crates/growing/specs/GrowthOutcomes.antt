@@ -1,0 +1,194 @@
+-- Growing a pattern and walking its next cables: what both ask and what they leave. Assumes nothing: these are definitions.
+use mathlib.Core.Path.{_≡_}
+use mathlib.Core.Bool.{Bool, true}
+use mathlib.Core.List.{List, [], _∷_, _++_, map}
+use Prim.Native.Nat.{ℕ, suc, _+_, _*_, _/_, _^_, _≤_, _<_}
+use lib.ListN.{length, drop}
+use Rattle.graphs.specs.Drawing.{Drawing, is-pattern}
+use Rattle.graphs.specs.Survey.{containing, support}
+use Rattle.codes.specs.Code.{Rec, fresh, rows-refusal, decoded, kinds-before, Least}
+use Rattle.codes.specs.CodeOrder.{kinds-order}
+use Rattle.growth.specs.Catalogue.{entry, entry-bytes, all-bytes}
+use Rattle.growth.specs.Catalogues.{entry-for}
+use Rattle.growth.specs.Growth.{Listed-by}
+use Rattle.growth.specs.Frequent.{Frequent}
+use Rattle.growth.specs.Places.{place-of, cell-number}
+use Rattle.growth.specs.CountingExtensions.{Counting, Grown, First-of}
+use Rattle.growth.specs.ListedBy.{Chosen-cells, place-in, records-at}
+use Rattle.growth.specs.Output.{Done, Ahead}
+use Rattle.growth.specs.Walking.{Gives, Ahead-of}
+use Rattle.readings.specs.declared.reading.Reading as held
+use Rattle.least_seen.specs.Accepting.{Accepted-front}
+use Rattle.growing.specs.declared.grow.Growth.{Growth}
+use Rattle.growing.specs.declared.grow.Growth.the-variants.{To, Full}
+use Rattle.growing.specs.declared.grow.Settings.{Settings}
+use Rattle.growing.specs.declared.grow.Taken.{Taken}
+use Rattle.growing.specs.declared.grow.Taken.the-variants as taken
+use Rattle.growing.specs.declared.grow.Taken.the-variants.{Passed, Written}
+use Rattle.laws.specs.PutRecords.{put-record}
+use Rattle.walks.specs.LabelMarks.{drawings-of}
+use Rattle.walks.specs.Prepared.{Prepared}
+use Rattle.walks.specs.Counts.{Blank}
+use Rattle.laws.specs.Parts.{part}
+use Rattle.walks.specs.Choices.{List-kept}
+use Rattle.candidates.specs.HeldCode.{records-of, Holding, basis}
+
+-- WHAT STAYS THE SAME: the survey prepared, a threshold and a size limit within their bounds
+pub record Set-up (survey labels rank alphabet : List ℕ) (g : Settings) : Type 0 where
+  pub prepared : Prepared survey labels rank alphabet (g .labels)
+  pub one : 1 ≤ g .threshold
+  pub most : g .threshold ≤ 32
+  pub small : g .limit ≤ 8
+
+-- THE ARRAYS: blank cells, and the list of candidates with its part below `base` in use
+pub record At-hand (cells seen list : List ℕ) (base level : ℕ) : Type 0 where
+  pub blank : Blank cells seen
+  pub list-size : length list ≡ 163840
+  pub room : base ≤ 20480 * level
+
+-- A CANDIDATE IS TAKEN UP: an accepted code of at most 8 records, and room for the entries before its own
+pub record Can-take-candidate (code : List ℕ) (m n cell : ℕ) (out : List ℕ) (count : ℕ) : Type 0 where
+  pub front : Accepted-front code m n
+  pub most : m ≤ 8
+  pub few : cell / (2 ^ 32) ≤ 32
+  pub out-room : 42 * count ≤ length out
+
+-- its code is the least, and its entry, with as many drawings as its cell counts, stands in the output
+pub record Entry-put (γ : List Rec) (cell count : ℕ) (out out-now : List ℕ) : Type 0 where
+  pub least : Least (decoded γ) γ
+  pub room : 42 * count + 42 ≤ length out
+  pub low : count + 1 < 2 ^ 64
+  pub is : out-now ≡ put-record 42 count (entry-bytes (entry (cell / (2 ^ 32)) γ)) out
+
+pub record No-room (γ : List Rec) (count : ℕ) (out out-now : List ℕ) : Type 0 where
+  pub least : Least (decoded γ) γ
+  pub short : length out < 42 * count + 42
+  pub same : out-now ≡ out
+
+pub record Not-least (γ : List Rec) (out out-now : List ℕ) : Type 0 where
+  pub not-least : Least (decoded γ) γ → ⊥
+  pub same : out-now ≡ out
+
+abbrev pub Candidate-taken : (γ : List Rec) (cell count : ℕ) → (out : List ℕ) → Taken → (out-now : List ℕ) → Type 0
+Candidate-taken γ cell count out Passed z = Not-least γ out z
+Candidate-taken γ cell count out taken.Full z = No-room γ count out z
+Candidate-taken γ cell count out Written z = Entry-put γ cell count out z
+
+-- THE CODE THAT IS TO GROW describes a pattern that enough drawings contain; its cell tells which
+pub record Candidate-held (ds : List Drawing) (s : ℕ) (γ : List Rec) (cell : ℕ) : Type 0 where
+  pub accepted : rows-refusal fresh γ ≡ 0
+  pub drawn : is-pattern (decoded γ) ≡ true
+  pub often : s ≤ support (decoded γ) ds
+  pub cell-is : cell ≡ cell-number (containing (decoded γ) ds)
+
+pub record Can-grow-pattern (survey labels rank alphabet : List ℕ) (g : Settings) (h : held.Reading) (cell : ℕ) (cells seen list : List ℕ) (base : ℕ)
+    (out : List ℕ) (count : ℕ) : Type 0 where
+  pub set-up : Set-up survey labels rank alphabet g
+  pub holding : Holding h
+  pub some : 1 ≤ h .code .count
+  pub most : h .code .count ≤ g .limit
+  pub candidate : Candidate-held (drawings-of survey) (g .threshold) (records-of h) cell
+  pub at-hand : At-hand cells seen list base (h .code .count)
+  pub out-room : 42 * count ≤ length out
+
+-- WHAT IS WRITTEN: the codes listed so far, as entries at the front of the output
+pub record Lists (ds : List Drawing) (cs : List (List Rec)) (old out : List ℕ) (count : ℕ) : Type 0 where
+  pub count-is : count ≡ length cs
+  pub bytes : out ≡ all-bytes (map (entry-for ds) cs) ++ drop (42 * length cs) old
+
+-- codes that are listed rightly and do not fit
+pub record Too-many (ds : List Drawing) (s l room : ℕ) : Type 0 where
+  pub codes : List (List Rec)
+  pub done : Done kinds-before kinds-order ds s l codes
+  pub long : room < 42 * length codes
+
+-- more codes, of which P tells, are listed behind cs
+pub record Lists-more (ds : List Drawing) (P : List (List Rec) → Type 0) (cs : List (List Rec)) (old out : List ℕ) (count : ℕ) : Type 0 where
+  pub more : List (List Rec)
+  pub which : P more
+  pub lists : Lists ds (cs ++ more) old out count
+  pub room : 42 * count ≤ length out
+
+abbrev pub Outcome : (ds : List Drawing) (s l : ℕ) (P : List (List Rec) → Type 0) (cs : List (List Rec)) (old out : List ℕ) → Growth → Type 0
+Outcome ds s l P cs old out (To k) = Lists-more ds P cs old out k
+Outcome ds s l P cs old out Full = Too-many ds s l (length out)
+
+-- what stands in the output fits
+abbrev pub Room-left : (out : List ℕ) → Growth → Type 0
+Room-left out (To k) = 42 * k ≤ length out
+Room-left out Full = 0 ≤ length out
+
+-- AFTER GROWING
+pub record Pattern-grown (survey : List ℕ) (g : Settings) (γ : List Rec) (cells seen list : List ℕ) (base : ℕ) (list-now out : List ℕ)
+    (count : ℕ) (r : Growth)
+    (out-now : List ℕ) : Type 0 where
+  pub blank : Blank cells seen
+  pub kept : List-kept base list list-now
+  pub size : length out-now ≡ length out
+  pub room : Room-left out-now r
+  pub told :
+      (cs : List (List Rec)) (old : List ℕ) → Ahead kinds-before kinds-order (drawings-of survey) (g .threshold) (g .limit) cs γ
+      → Lists (drawings-of survey) cs old out count
+      → Outcome (drawings-of survey) (g .threshold) (g .limit) (Gives kinds-before kinds-order (drawings-of survey) (g .threshold)
+      (g .limit) γ) cs old
+      out-now r
+
+-- WHICH RECORDS WERE COUNTED after γ, or of a lone device of some kind
+abbrev pub Fit : (kind : ℕ) → List Rec → Drawing → Rec → Type 0
+Fit k [] = First-of k
+Fit k (r ∷ rs) = Grown (r ∷ rs)
+
+-- the records at the candidates' places
+abbrev pub candidates-in : (kind : ℕ) → List Rec → (alphabet : List ℕ) (n : ℕ) → (candidates : List ℕ) → List Rec
+candidates-in k γ alphabet n qs = records-at (basis k γ) alphabet n (map place-in qs)
+
+pub record Can-walk-candidates (survey labels rank alphabet : List ℕ) (g : Settings) (h : held.Reading) (kind : ℕ)
+    (cells seen list : List ℕ) (from top : ℕ)
+    (out : List ℕ) (count : ℕ) : Type 0 where
+  pub set-up : Set-up survey labels rank alphabet g
+  pub holding : Holding h
+  pub more : h .code .count < g .limit
+  pub sets : ℕ → List Bool
+  pub counting :
+      Counting (place-of rank (g .labels)) (Fit kind (records-of h)) (drawings-of survey) (length (drawings-of survey)) sets
+  pub chosen : Chosen-cells sets (g .threshold) (g .labels) (part from top list)
+  pub low : from ≤ top
+  pub at-hand : At-hand cells seen list top (suc (h .code .count))
+  pub out-room : 42 * count ≤ length out
+
+-- AFTER WALKING the candidates qs
+pub record Candidates-walked (survey alphabet : List ℕ) (g : Settings) (kind : ℕ) (γ : List Rec) (cells seen list : List ℕ) (from top : ℕ)
+    (list-now out : List ℕ)
+    (count : ℕ) (r : Growth) (out-now : List ℕ) : Type 0 where
+  pub blank : Blank cells seen
+  pub kept : List-kept top list list-now
+  pub size : length out-now ≡ length out
+  pub room : Room-left out-now r
+  pub told :
+      (cs : List (List Rec)) (old : List ℕ)
+      → Ahead-of kinds-before kinds-order (drawings-of survey) (g .threshold) (g .limit) cs γ
+      (candidates-in kind γ alphabet (g .labels) (part from top list))
+      → Lists (drawings-of survey) cs old out count
+      → Outcome (drawings-of survey) (g .threshold) (g .limit)
+      (Listed-by kinds-before kinds-order (Frequent kinds-before (drawings-of survey) (g .threshold)) (g .limit) γ
+      (candidates-in kind γ alphabet (g .labels) (part from top list)))
+      cs old out-now r
+
+-- WHILE THEY ARE WALKED: those below k were
+pub record On-the-way (survey alphabet : List ℕ) (g : Settings) (kind : ℕ) (γ : List Rec) (list : List ℕ) (from top : ℕ) (out : List ℕ) (count k : ℕ)
+    (cells seen list-now out-now : List ℕ) (written : ℕ) : Type 0 where
+  pub low : from ≤ k
+  pub high : k ≤ top
+  pub blank : Blank cells seen
+  pub kept : List-kept top list list-now
+  pub size : length out-now ≡ length out
+  pub room : 42 * written ≤ length out-now
+  pub told :
+      (cs : List (List Rec)) (old : List ℕ)
+      → Ahead-of kinds-before kinds-order (drawings-of survey) (g .threshold) (g .limit) cs γ
+      (candidates-in kind γ alphabet (g .labels) (part from top list))
+      → Lists (drawings-of survey) cs old out count
+      → Lists-more (drawings-of survey)
+      (Listed-by kinds-before kinds-order (Frequent kinds-before (drawings-of survey) (g .threshold)) (g .limit) γ
+      (candidates-in kind γ alphabet (g .labels) (part from k list)))
+      cs old out-now written

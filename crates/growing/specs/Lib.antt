@@ -1,0 +1,5 @@
+-- Definitions.
+pub mod GrowthOutcomes
+-- Laws over them.
+pub mod PatternGrowth
+pub mod CandidateWalk

@@ -1,0 +1,139 @@
+-- Entries in the output: one entry written byte by byte, and one entry more behind those that are there. Rests on records
+-- of any size. Assumes nothing.
+use mathlib.Core.Path.{_≡_, refl, sym, ap, _∙_}
+use mathlib.Core.List.{List, [], _∷_, _++_, map}
+use Prim.Native.Nat.{ℕ, suc, _+_, _*_, _-_, _≤_, _<_}
+use native.Mathlib.Numerals.{add-one}
+use native.Mathlib.Omega.{arith}
+use native.Mathlib.Decide.{decLt}
+use lib.ListN.{
+  length,
+  getD,
+  take,
+  drop,
+  set,
+  replicate,
+  length-append,
+  length-set,
+  length-replicate,
+  length-map,
+  getD-replicate,
+  List·getD-append,
+}
+use lib.Seq.{take-suc, take-suc-set, take-all, getD-take, getD-append-add, length-take-le}
+use borrow.Author.Tests.{lt-ltb, le-ltb}
+use Rattle.laws.specs.Lists.{Mem, snoc, concat, map-append}
+use Rattle.laws.specs.Rows.{Sized}
+use Rattle.codes.specs.Code.{recs-in, rec-bytes}
+use Rattle.codes.specs.CodeBytes.{rec-bytes-length, rec-bytes-in, recs-in-length}
+use Rattle.growth.specs.Catalogue.{Entry, entry, entry-bytes, all-bytes}
+use Rattle.growth.specs.Entries.{byte-or-zero, Bytes-written}
+use Rattle.laws.specs.PutRecords.{put-record}
+use Rattle.laws.specs.PutRecordLaws.{put-behind}
+
+-- WHAT IS WRITTEN where
+pub byte-within : (bs : List ℕ) (n i : ℕ) → i < n → getD bs i 0 ≡ byte-or-zero bs n i
+unfolding byte-or-zero
+byte-within bs n i h = simp (lt-ltb i n h)
+
+pub byte-past : (bs : List ℕ) (n i : ℕ) → n ≤ i → 0 ≡ byte-or-zero bs n i
+unfolding byte-or-zero
+byte-past bs n i h = simp (le-ltb i n h)
+
+-- the first n bytes with zeros behind them
+padded-at :
+    (bs : List ℕ) (n i w : ℕ) → n ≤ length bs → n ≤ w → i < w → getD (take n bs ++ replicate (w - n) 0) i 0 ≡ byte-or-zero bs n i
+padded-at bs n i w h g l = go (decLt i n)
+  where
+    size : length (take n bs) ≡ n
+    size = length-take-le n bs h
+
+    go : Dec (i < n) → getD (take n bs ++ replicate (w - n) 0) i 0 ≡ byte-or-zero bs n i
+    go (yes p) = List·getD-append (take n bs) (replicate (w - n) 0) 0 i (omega (arith, size)) ∙ getD-take n bs i 0 p ∙ byte-within bs n i p
+    go (no p) =
+        let e : i ≡ length (take n bs) + (i - n) = omega (arith, size) in
+        ap (λ (k : ℕ). getD (take n bs ++ replicate (w - n) 0) k 0) e
+        ∙ getD-append-add (take n bs) (replicate (w - n) 0) (i - n) 0
+        ∙ getD-replicate (w - n) (i - n) 0 0 (omega arith)
+        ∙ byte-past bs n i (omega arith)
+
+-- ONE ENTRY: of a code's bytes
+abbrev pub told : List ℕ → (m s : ℕ) → List ℕ
+told bs m s = entry-bytes (entry s (recs-in m bs))
+
+module _ (bs : List ℕ) (m s : ℕ) (room : length bs ≡ 100) (few : m ≤ 8) where
+  told-is : told bs m s ≡ m ∷ s ∷ (take (5 * m) bs ++ replicate (40 - 5 * m) 0)
+  unfolding entry-bytes
+  told-is = rw (recs-in-length m bs, rec-bytes-in m bs (omega arith))
+
+  pub told-size : length (told bs m s) ≡ 42
+  told-size =
+      ap length told-is
+      ∙ omega (
+        arith,
+        length-append (take (5 * m) bs) (replicate (40 - 5 * m) 0),
+        length-take-le (5 * m) bs (omega arith),
+        length-replicate {A = ℕ} (40 - 5 * m) 0,
+      )
+
+  told-at : (i : ℕ) → 2 ≤ i → i < 42 → getD (told bs m s) i 0 ≡ byte-or-zero bs (5 * m) (i - 2)
+  told-at i l h =
+      let e : i ≡ suc (suc (i - 2)) = omega arith in
+      ap (λ (x : List ℕ). getD x i 0) told-is
+      ∙ ap (λ (k : ℕ). getD (m ∷ s ∷ (take (5 * m) bs ++ replicate (40 - 5 * m) 0)) k 0) e
+      ∙ padded-at bs (5 * m) (i - 2) 40 (omega arith) (omega arith) (omega arith)
+
+  -- WHILE IT IS WRITTEN
+  pub written-start : (out : List ℕ) → length out ≡ 42 → Bytes-written (told bs m s) 2 (set (set out 0 m) 1 s)
+  written-start [] h = absurd (omega arith)
+  written-start (a ∷ []) h = absurd (omega arith)
+  written-start (a ∷ b ∷ out) h = record { size = h; front = ap (take 2) (sym told-is) }
+
+  pub written-next :
+      (i : ℕ) (out : List ℕ) (b : ℕ) → 2 ≤ i → i < 42 → Bytes-written (told bs m s) i out → b ≡ byte-or-zero bs (5 * m) (i - 2)
+      → Bytes-written (told bs m s) (i + 1) (set out i b)
+  written-next i out b l h w e =
+      record {
+        size = length-set out i b ∙ w .size;
+        front =
+            rw (
+              add-one,
+              take-suc-set out i b (omega (arith, w .size)),
+              take-suc (told bs m s) i 0 (omega (arith, told-size)),
+              w .front,
+              e,
+              told-at i l h,
+            ) refl;
+      }
+
+  pub written-end : (i : ℕ) (out : List ℕ) → 42 ≤ i → Bytes-written (told bs m s) i out → out ≡ told bs m s
+  written-end i out h w =
+      sym (take-all i out (omega (arith, w .size))) ∙ w .front ∙ take-all i (told bs m s) (omega (arith, told-size))
+
+-- ALL ENTRIES
+-- an entry of at most 8 records has its 42 bytes
+pub entry-size : (e : Entry) → length (e .code) ≤ 8 → length (entry-bytes e) ≡ 42
+unfolding entry-bytes
+entry-size e h =
+    omega (
+      arith,
+      length-append (rec-bytes (e .code)) (replicate (40 - 5 * length (e .code)) 0),
+      rec-bytes-length (e .code),
+      length-replicate {A = ℕ} (40 - 5 * length (e .code)) 0,
+    )
+
+pub entries-sized : (es : List Entry) → ((e : Entry) → Mem e es → length (e .code) ≤ 8) → Sized 42 (map entry-bytes es)
+unfolding Sized
+entries-sized [] h = tt
+entries-sized (e ∷ es) h = (entry-size e (h e (Mem.here refl)), entries-sized es (λ f m. h f (Mem.there m)))
+
+-- ONE ENTRY MORE behind those that are there
+pub entry-behind :
+    (es : List Entry) (e : Entry) (output rest : List ℕ) → ((f : Entry) → Mem f es → length (f .code) ≤ 8)
+    → output ≡ all-bytes es ++ rest → put-record 42 (length es) (entry-bytes e) output ≡ all-bytes (snoc es e) ++ drop 42 rest
+unfolding all-bytes
+entry-behind es e output rest h is =
+    ap (put-record 42 (length es) (entry-bytes e)) is
+    ∙ ap (λ (n : ℕ). put-record 42 n (entry-bytes e) (concat (map entry-bytes es) ++ rest)) (sym (length-map es entry-bytes))
+    ∙ put-behind 42 (map entry-bytes es) (entry-bytes e) rest (entries-sized es h)
+    ∙ ap (λ (rs : List (List ℕ)). concat rs ++ drop 42 rest) (sym (map-append entry-bytes es (e ∷ [])))

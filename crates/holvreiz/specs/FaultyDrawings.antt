@@ -1,0 +1,73 @@
+-- The drawing at fault in the answer of a catalogue is one of the survey's. Assumes nothing.
+use mathlib.Core.Path.{_≡_, refl}
+use mathlib.Core.Bool.{Bool, true, false, _&&_, not, cond}
+use mathlib.Core.List.{List, [], _∷_}
+use Prim.Native.Nat.{ℕ, zero, suc, _+_, _*_, _/_, _%_, _≤_, _<_}
+use native.Mathlib.Omega.{arith}
+use lib.Dec.{ltb, leb, eqb, lit<}
+use lib.ListN.{length}
+use borrow.Author.Tests.{leb-true, eqb-true}
+use Rattle.laws.specs.Tests.{and-split}
+use Rattle.laws.specs.Rows.{rows-length}
+use Rattle.graphs.specs.Drawing.{drawing-refusal}
+use Rattle.graphs.specs.Survey as surveys
+use Rattle.graphs.specs.Survey.{survey, records-in, drawings-refusal, length-refusal, bytes-refusal, survey-refusal}
+use Rattle.growth.specs.Catalogue.{Entry}
+use Rattle.records.specs.declared.catalogued.Catalogued.{Catalogued}
+use Rattle.records.specs.declared.catalogued.Catalogued.the-variants.{Entries, Refused}
+use Rattle.records.specs.Catalogued.{catalogued-refusal, catalogued-count}
+use Rattle.mining.specs.CatalogueSays.{Entries-written, Catalogue-as, Catalogue-says}
+
+-- THE DRAWING AT FAULT, or 0 where none is
+module _ (most : ℕ) (some : 0 < most) where
+  either-drawing : (t : Bool) (a b : surveys.Refusal) → a .drawing < most → b .drawing < most → cond t a b .drawing < most
+  either-drawing true a b h g = h
+  either-drawing false a b h g = g
+
+  faulty-drawing : (d : ℕ) (rs : List (List ℕ)) → d + length rs ≤ most → drawings-refusal d rs .drawing < most
+  unfolding drawings-refusal surveys.refusal
+  faulty-drawing d [] h = some
+  faulty-drawing d (r ∷ rs) h =
+      either-drawing (eqb (drawing-refusal r) 0) _ _ (faulty-drawing (suc d) rs (omega arith)) (omega arith)
+
+-- a survey whose length is accepted has at most 32 drawings
+most-drawings : (bs : List ℕ) → length-refusal bs ≡ 0 → length bs / 72 ≤ 32
+unfolding length-refusal
+most-drawings bs e = go (eqb (length bs % 72) 0) (leb 1 (length bs / 72) && leb (length bs / 72) 32) refl e
+  where
+    go :
+        (a b : Bool) → (leb 1 (length bs / 72) && leb (length bs / 72) 32) ≡ b → cond {A = ℕ} (not a) 1 (cond (not b) 14 0) ≡ 0
+        → length bs / 72 ≤ 32
+    go true true p e = leb-true (length bs / 72) 32 (and-split (leb 1 (length bs / 72)) (leb (length bs / 72) 32) p .1)
+    go true false p e = absurd (omega arith)
+    go false b p e = absurd (omega arith)
+
+bytes-drawing : (bs : List ℕ) → bytes-refusal bs .drawing < 32
+unfolding bytes-refusal surveys.refusal records-in
+bytes-drawing bs = go (eqb (length-refusal bs) 0) refl
+  where
+    go :
+        (t : Bool) → eqb (length-refusal bs) 0 ≡ t
+        → cond {A = surveys.Refusal} t (drawings-refusal 0 (records-in bs)) (record { number = length-refusal bs; drawing = 0 }) .drawing < 32
+    go true e =
+        unfold records-in in
+        faulty-drawing 32 (lit< tt) 0 _
+        (omega (arith, rows-length 72 (length bs / 72) bs, most-drawings bs (eqb-true (length-refusal bs) 0 e)))
+    go false e = lit< tt
+
+survey-drawing : (bs : List ℕ) (s l : ℕ) → survey-refusal bs s l .drawing < 32
+unfolding survey-refusal surveys.refusal
+survey-drawing bs s l =
+    either-drawing 32 (lit< tt) (not (leb 1 s && leb s 32)) _ _ (lit< tt)
+    (either-drawing 32 (lit< tt) (not (leb 1 l && leb l 8)) _ _ (lit< tt) (bytes-drawing bs))
+
+pub says-drawing : (bs : List ℕ) (s l : ℕ) (r : Catalogued) (o z : List ℕ) → Catalogue-says bs s l r o z → catalogued-refusal r .drawing < 32
+says-drawing bs s l r o z says = go (survey-refusal bs s l .number) says
+  where
+    written : (t : Bool) (es : List Entry) → Entries-written t es r o z → catalogued-refusal r .drawing < 32
+    written true es w = unfold surveys.refusal in rw (w .0) (lit< tt)
+    written false es w = unfold surveys.refusal in rw (w .0) (lit< tt)
+
+    go : (n : ℕ) → Catalogue-as n (survey-refusal bs s l) (survey bs) s l r o z → catalogued-refusal r .drawing < 32
+    go zero w = written (ltb (length o) (42 * length (w .0))) (w .0) (w .2)
+    go (suc n) w = rw (w .0) (survey-drawing bs s l)

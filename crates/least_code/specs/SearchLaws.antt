@@ -1,0 +1,140 @@
+-- A search below a branch, record by record: what the next record and its ties establish. Rests on Searched, BranchLeast
+-- and BranchSteps. Assumes nothing.
+use mathlib.Core.Path.{_≡_, refl, sym, ap, _∙_}
+use mathlib.Core.Bool.{true}
+use mathlib.Core.List.{List, [], _∷_, _++_}
+use mathlib.Core.Logic.{_⊎_, inl, inr}
+use Prim.Native.Nat.{ℕ, _-_, _≤_, _<_}
+use native.Mathlib.Omega.{arith}
+use lib.ListN.{length, getD, length-append}
+use Rattle.graphs.specs.Drawing.{Drawing, devices, drawing-in}
+use Rattle.graphs.specs.Embedding.{Ends-in-range}
+use Rattle.graphs.specs.Graph.{Pattern}
+use Rattle.codes.specs.Code.{Rec, fresh, read-rows, kinds-before, rec-before}
+use Rattle.codes.specs.CodeOrder.{rec-eq, kinds-order}
+use Rattle.codes.specs.Extension.{Local}
+use Rattle.codes.specs.Greedy.{Fits}
+use Rattle.codes.specs.Tight.{Tight}
+use Rattle.codes.specs.Branch.{Node, node-goes-on}
+use Rattle.codes.specs.Runs.{Least-local}
+use Rattle.codes.specs.Searched.{Full, searched-done, searched-cut}
+use Rattle.codes.specs.BranchState.{Labels, State, numbering, chord-of, edge-of, Represents}
+use Rattle.codes.specs.BranchBounds.{Bounds, represents-bounds, numbering-size, device-is, device-kind}
+use Rattle.codes.specs.BranchLaws.{chord-found-local, edge-local}
+use Rattle.codes.specs.BranchLeast.{chord-found-least, edge-found-least, nothing-found}
+use Rattle.tables.specs.declared.«record».Order.the-variants.{After}
+use Rattle.branches.specs.declared.extension.Extension.{Extension}
+use Rattle.branches.specs.declared.extension.Extension.the-variants.{Chord, Edge, None}
+use Rattle.branches.specs.Extensions.{Extension-found}
+use Rattle.least_seen.specs.BetterLaws.{Sees, found-compares}
+use Rattle.least_code.specs.Searches.{Search-from, Search-done, found-record, Makes-record, Against, comes-after}
+
+-- rows of a node are some
+node-some : (d : Drawing) (γ : List Rec) (f : List ℕ) → Node d γ f → 0 < length γ
+unfolding read-rows fresh
+node-some d [] f n = absurd (omega (arith, n .invariant .two))
+node-some d (r ∷ rs) f n = omega arith
+
+module _ {bs t : List ℕ} {m : ℕ} {γ : List Rec} {b : State} {best : List Rec} (s : Search-from bs t m γ b best) where
+  abbrev d : Drawing
+  d = drawing-in bs
+
+  abbrev p : Pattern (drawing-in bs)
+  p = s .given .pattern
+
+  abbrev ten : devices (drawing-in bs) ≤ 10
+  ten = s .given .pattern .devices-high
+
+  abbrev ends : Ends-in-range (drawing-in bs)
+  ends = s .given .pattern .simple .ends
+
+  abbrev table : Labels (drawing-in bs) t
+  table = s .given .labels
+
+  abbrev r : Represents (drawing-in bs) γ b
+  r = s .represents
+
+  pub search-bounds : Bounds b
+  search-bounds = represents-bounds d γ b ten r
+
+  -- THE RECORD FOUND is the one that the rows say
+  pub chord-record-is : (q l : ℕ) → found-record (drawing-in bs) b (Chord q l) ≡ chord-of (read-rows fresh γ) b q l
+  chord-record-is q l = rec-eq _ _ refl refl (device-kind d γ b ten r (b .count - 1) (omega (arith, search-bounds .two))) refl refl
+
+  pub edge-record-is : (q l : ℕ) → q < b .count → found-record (drawing-in bs) b (Edge q l) ≡ edge-of (read-rows fresh γ) b q l
+  edge-record-is q l below = rec-eq _ _ refl refl (device-kind d γ b ten r q below) refl refl
+
+  -- it is the least that goes on
+  pub found-least :
+      (e : Extension) → Extension-found t b e
+      → Least-local kinds-before kinds-order (drawing-in bs) (read-rows fresh γ) (numbering b) (found-record (drawing-in bs) b e)
+  found-least (Chord q l) c y h = rw (chord-record-is q l) (chord-found-least d ten ends t table γ b r q l c y h)
+  found-least (Edge q l) c y h = rw (edge-record-is q l (c .place)) (edge-found-least d ten ends t table γ b r q l c y h)
+  found-least None c y h = absurd (nothing-found d ten ends t table γ b r c y h)
+
+  -- while a cable is not listed, something goes on
+  something : length γ < m → (y : Rec) × Local (drawing-in bs) (read-rows fresh γ) (numbering b) y
+  something h = go γ (r .node) (s .tight) (rw (s .given .cables) h)
+    where
+      go :
+          (δ : List Rec) → Node (drawing-in bs) δ (numbering b) → Tight (drawing-in bs) (read-rows fresh δ) (numbering b)
+          → length δ < length (drawing-in bs .cables) → (y : Rec) × Local (drawing-in bs) (read-rows fresh δ) (numbering b) y
+      go [] n i l = absurd (omega (arith, node-some d [] (numbering b) n))
+      go (c ∷ δ) n i l = node-goes-on d p c δ (numbering b) n i l
+
+  module _ (less : length γ < m) where
+    pub never-none : Extension-found t b None → ⊥
+    never-none c = let y = something less in nothing-found d ten ends t table γ b r c (y .0) (y .1)
+
+    pub found-local :
+        (e : Extension) → Extension-found t b e → Local (drawing-in bs) (read-rows fresh γ) (numbering b) (found-record (drawing-in bs) b e)
+    found-local (Chord q l) c = rw (chord-record-is q l) (chord-found-local d ten ends t table γ b r q l c)
+    found-local (Edge q l) c =
+        rw (edge-record-is q l (c .place)) (edge-local d ten ends t table γ b r q (c .device) l (c .place) (c .free) (c .label) (c .some) .0)
+    found-local None c = absurd (never-none c)
+
+  -- WHAT IS NEEDED to make it
+  pub search-sees : Sees (drawing-in bs) t γ b
+  search-sees = record { ten = ten; ends = ends; labels = table; branch = r }
+
+  pub makes-record : (e : Extension) → Extension-found t b e → Makes-record bs b e
+  makes-record e c =
+      record {
+        accepted = s .given .accepted;
+        lands = λ q h.
+            rw (device-is d γ b ten r q h)
+            (r .node .embedding .lands (getD (b .path) q 0) (rw (numbering-size d γ b ten r) (search-bounds .on-path q h)));
+        place = found-compares search-sees e c;
+      }
+
+  -- THE BEST SO FAR has at least the rows, and at most all cables
+  whole-count : (best ≡ γ) ⊎ (Full kinds-before kinds-order (drawing-in bs) best × Fits (drawing-in bs) best) → length best ≤ m
+  whole-count (inl z) = omega (arith, ap length z, s .few)
+  whole-count (inr z) = omega (arith, z .0, s .given .cables)
+
+  pub best-most : length best ≤ m
+  best-most = whole-count (s .so-far .whole)
+
+  pub best-rows : length γ ≤ length best
+  best-rows = omega (arith, ap length (s .so-far .is), length-append γ (s .so-far .rest))
+
+  -- AT THE END OF A BRANCH
+  pub search-ended : length γ ≡ m → Search-done bs γ b best best
+  search-ended h = searched-done kinds-before kinds-order d γ (numbering b) best (r .node) (h ∙ sym (s .given .cables)) (s .so-far)
+
+  module _ (e : Extension) (found : Extension-found t b e) where
+    abbrev y : Rec
+    y = found-record (drawing-in bs) b e
+
+    -- THE BEST IS AHEAD
+    ahead : (c : Rec) (rest : List Rec) → best ≡ γ ++ c ∷ rest → rec-before c y ≡ true → Search-done bs γ b best best
+    ahead c rest is z = go (s .so-far .whole)
+      where
+        go : (best ≡ γ) ⊎ (Full kinds-before kinds-order (drawing-in bs) best × Fits (drawing-in bs) best) → Search-done bs γ b best best
+        go (inl q) = absurd (omega (arith, ap length q, ap length is, length-append γ (c ∷ rest)))
+        go (inr q) =
+            rw is
+            (searched-cut kinds-before kinds-order d γ (numbering b) y c rest (found-least e found) z (rw is at (q .0)) (rw is at (q .1)))
+
+    pub search-cut : Against γ best y After → Search-done bs γ b best best
+    search-cut (comes-after c rest is z) = ahead c rest is z

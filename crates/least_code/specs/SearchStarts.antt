@@ -1,0 +1,136 @@
+-- The starts of a search: a cable one way round, then every cable both ways round. Rests on Started, and on the laws of a
+-- search below a branch. Assumes nothing.
+use mathlib.Core.Path.{_≡_, refl, sym, ap, _∙_, subst}
+use mathlib.Core.Bool.{true}
+use mathlib.Core.List.{List, [], _∷_}
+use mathlib.Core.Logic.{_⊎_, inl, inr}
+use Prim.Native.Nat.{ℕ, _-_, _/_, _%_, _≤_, _<_}
+use native.Mathlib.Omega.{arith}
+use lib.ListN.{length}
+use Rattle.graphs.specs.Drawing.{Drawing, devices, kind, drawing-in}
+use Rattle.graphs.specs.Cables.{Has, has-flip}
+use Rattle.graphs.specs.Graph.{Pattern}
+use Rattle.codes.specs.Code.{Rec, kinds-before, rec-before, Least}
+use Rattle.codes.specs.CodeOrder.{rec-eq, kinds-order}
+use Rattle.codes.specs.FirstRecord.{first-record, some-cable}
+use Rattle.codes.specs.Branch.{tight-first}
+use Rattle.codes.specs.Searched.{Best, Chosen, begun, kept, lowered, chosen-best}
+use Rattle.codes.specs.Started.{Started, Meets, none-yet, lowers, ties, started-skip, started-more, started-least}
+use Rattle.codes.specs.BranchState.{label-at, first-state}
+use Rattle.codes.specs.LabelLaws.{Labelled, cable-labelled}
+use Rattle.codes.specs.BranchSteps.{represents-first}
+use Rattle.tables.specs.declared.«record».Order.the-variants.{After}
+use Rattle.least_code.specs.Searches.{
+  Search-from,
+  Search-done,
+  Against,
+  comes-after,
+  Start-from,
+  Start-done,
+  passed,
+  searched,
+}
+
+-- ONE START
+module _ {bs table : List ℕ} {m u w k : ℕ} {best : List Rec} (s : Start-from bs table m u w k best) where
+  abbrev d : Drawing
+  d = drawing-in bs
+
+  abbrev p : Pattern (drawing-in bs)
+  p = s .given .pattern
+
+  abbrev first : Rec
+  first = first-record (drawing-in bs) u w k
+
+  -- the ends of the cable are devices
+  pub start-ends : (u < devices (drawing-in bs)) × (w < devices (drawing-in bs))
+  start-ends = (p .simple .ends u w k (s .has), p .simple .ends w u k (has-flip (s .has)))
+
+  pub start-low : (u < 10) × (w < 10)
+  start-low = (omega (arith, start-ends, p .devices-high), omega (arith, start-ends, p .devices-high))
+
+  its-label : Labelled (drawing-in bs) u w k (label-at table u w)
+  its-label = cable-labelled d (p .simple .ends) table (s .given .labels) u w k (s .has)
+
+  -- its label l, and the first record taken from it
+  module _ (l : ℕ) (label-is : l ≡ label-at table u w) where
+    pub start-label : (0 < l) × (l ≤ 65536)
+    start-label =
+        let z = its-label in
+        (omega (arith, z .is), omega (arith, z .is, z .byte, s .given .labels .cable-byte u w k (s .has)))
+
+    pub start-record :
+        (ki c kj : ℕ) → ki ≡ kind (drawing-in bs) u → c ≡ (l - 1) / 256 → kj ≡ (l - 1) % 256
+        → record { i = 0; j = 1; ki = ki; c = c; kj = kj } ≡ first-record (drawing-in bs) u w k
+    unfolding first-record
+    start-record ki c kj p q r =
+        rec-eq _ _ refl refl p (q ∙ rw label-is (sym (its-label .cable-is))) (r ∙ rw label-is (sym (its-label .kind-is)))
+
+  -- the best is ahead
+  pub start-passed : Against [] best first After → Start-done (drawing-in bs) u w k best best
+  start-passed (comes-after c rest is z) = passed c rest is z refl
+
+  module _ (after-first : List Rec) (chosen : Chosen kinds-before kinds-order (drawing-in bs) []
+      (first-record (drawing-in bs) u w k) best after-first) where
+    start-best : Best kinds-before kinds-order (drawing-in bs) (first-record (drawing-in bs) u w k ∷ []) after-first
+    start-best = chosen-best kinds-before kinds-order d [] first best after-first (s .so-far) chosen
+
+    -- all that begins with it
+    pub start-search : Search-from bs table m (first-record (drawing-in bs) u w k ∷ []) (first-state u w) after-first
+    start-search =
+        record {
+          given = s .given;
+          few = omega (arith, s .given .cables, p .cables-low);
+          represents = represents-first d (p .simple) (p .devices-high) u w k (s .has);
+          tight = tight-first d p u w k (s .has);
+          so-far = start-best;
+        }
+
+    pub start-searched :
+        (after : List Rec) → Search-done bs (first-record (drawing-in bs) u w k ∷ []) (first-state u w) after-first after
+        → Start-done (drawing-in bs) u w k best after
+    start-searched after z = searched after-first chosen z
+
+-- SEVERAL STARTS: none yet, or what the starts so far establish of the best
+pub data Starts (d : Drawing) (best : List Rec) (Seen : (u w k : ℕ) → Type 0) : Type 0 where
+  no-start : best ≡ [] → ((u w k : ℕ) → Seen u w k → ⊥) → Starts d best Seen
+  some-start : Started kinds-before kinds-order d best Seen → Starts d best Seen
+
+pub starts-best : (d : Drawing) (best : List Rec) (Seen : (u w k : ℕ) → Type 0) → Starts d best Seen → Best kinds-before kinds-order d [] best
+starts-best d best Seen (no-start e n) = record { rest = best; is = refl; whole = inl e }
+starts-best d best Seen (some-start t) = record { rest = best; is = refl; whole = inr (t .full, t .fits) }
+
+-- one more
+module _ (d : Drawing) (best after : List Rec) (Seen More : (u w k : ℕ) → Type 0) (u w k : ℕ)
+    (split : (a b l : ℕ) → More a b l → Seen a b l ⊎ ((a ≡ u) × (b ≡ w) × (l ≡ k))) where
+  abbrev e : Rec
+  e = first-record d u w k
+
+  nothing-else : (c : Rec) (rest : List Rec) → best ≡ [] → best ≡ c ∷ rest → ⊥
+  nothing-else c rest p q = omega (arith, ap length p, ap length q)
+
+  -- how the first record meets the best
+  meets : (first : List Rec) → Chosen kinds-before kinds-order d [] e best first → Starts d best Seen
+      → Meets kinds-before kinds-order d best Seen e first
+  meets first c (no-start z n) = none-yet n
+  meets first (begun z) (some-start t) = absurd (nothing-else (t .r) (t .tail) z (t .is))
+  meets first (kept rest z) (some-start t) = let q : e ≡ t .r = cc (z, t .is) in ties t q refl
+  meets first (lowered c rest z l) (some-start t) =
+      let q : c ≡ t .r = cc (z, t .is) in
+      lowers t (subst (λ (y : Rec). rec-before e y ≡ true) q l)
+
+  pub starts-more : Starts d best Seen → Start-done d u w k best after → Starts d after More
+  starts-more t (searched first c z) =
+      some-start (started-more kinds-before kinds-order d best first after Seen More u w k (meets first c t) z split)
+  starts-more (no-start q n) (passed c rest is z a) = absurd (nothing-else c rest q is)
+  starts-more (some-start t) (passed c rest is z a) =
+      let q : c ≡ t .r = cc (is, t .is) in
+      rw a (some-start (started-skip kinds-before kinds-order d best Seen More u w k t (subst (λ (y : Rec). rec-before y e ≡ true) q z) split))
+
+-- all of them
+pub starts-least :
+    (d : Drawing) → Pattern d → (best : List Rec) (Seen : (u w k : ℕ) → Type 0) → ((u w k : ℕ) → Has u w k (d .cables) → Seen u w k)
+    → Starts d best Seen → Least d best
+starts-least d p best Seen all (no-start e n) = let c = some-cable (d .cables) (p .cables-low) in absurd
+    (n (c .0) (c .1) (c .2) (all (c .0) (c .1) (c .2) (c .3)))
+starts-least d p best Seen all (some-start t) = started-least kinds-before kinds-order d p best Seen t all

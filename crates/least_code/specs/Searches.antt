@@ -1,0 +1,94 @@
+-- The search for the least code as the program makes it: what each step is handed and what it leaves. Assumes nothing:
+-- these are definitions.
+use mathlib.Core.Path.{_≡_}
+use mathlib.Core.Bool.{true}
+use mathlib.Core.List.{List, [], _∷_, _++_}
+use Prim.Native.Nat.{ℕ, _-_, _≤_, _<_}
+use lib.ListN.{length}
+use Rattle.laws.specs.Lists.{snoc}
+use Rattle.graphs.specs.Drawing.{Drawing, devices, kind, drawing-in, drawing-refusal}
+use Rattle.graphs.specs.Cables.{Has}
+use Rattle.graphs.specs.Graph.{Pattern}
+use Rattle.codes.specs.Code.{Rec, fresh, recs-in, read-rows, kinds-before, rec-before}
+use Rattle.codes.specs.CodeOrder.{kinds-order}
+use Rattle.codes.specs.FirstRecord.{first-record}
+use Rattle.codes.specs.Tight.{Tight}
+use Rattle.codes.specs.Searched.{Best, Searched, Chosen}
+use Rattle.codes.specs.BranchState.{Labels, State, numbering, device-at, Represents}
+use Rattle.records.specs.declared.code.Code.{Code}
+use Rattle.tables.specs.declared.«record».Order.{Order}
+use Rattle.tables.specs.declared.«record».Order.the-variants.{Before, Equal, After}
+use Rattle.branches.specs.declared.extension.Extension.{Extension}
+use Rattle.branches.specs.declared.extension.Extension.the-variants.{Chord, Edge, None}
+use Rattle.branches.specs.Ways.{chord-with, edge-with, Way, followed}
+use Rattle.least_seen.specs.Betters.{Can-compare}
+
+-- the first t records of a code under work
+abbrev pub rows-to : (t : ℕ) → Code → List Rec
+rows-to t c = recs-in t (c .records)
+
+-- AN ACCEPTED DRAWING, the table of its labels, and the number of its cables
+pub record Given (bs table : List ℕ) (m : ℕ) : Type 0 where
+  pub accepted : drawing-refusal bs ≡ 0
+  pub pattern : Pattern (drawing-in bs)
+  pub labels : Labels (drawing-in bs) table
+  pub cables : length (drawing-in bs .cables) ≡ m
+
+-- A SEARCH BELOW A BRANCH of the rows γ, with the best code so far
+pub record Search-from (bs table : List ℕ) (m : ℕ) (γ : List Rec) (b : State) (best : List Rec) : Type 0 where
+  pub given : Given bs table m
+  pub few : length γ ≤ m
+  pub represents : Represents (drawing-in bs) γ b
+  pub tight : Tight (drawing-in bs) (read-rows fresh γ) (numbering b)
+  pub so-far : Best kinds-before kinds-order (drawing-in bs) γ best
+
+-- what it leaves
+abbrev pub Search-done : (bs : List ℕ) (γ : List Rec) (b : State) (best after : List Rec) → Type 0
+Search-done bs γ b = Searched kinds-before kinds-order (drawing-in bs) γ (numbering b)
+
+-- THE NEXT RECORD: the kind of i is that of its device
+abbrev pub found-record : Drawing → State → Extension → Rec
+found-record d b (Chord q l) = chord-with b q l (kind d (device-at b (b .count - 1)))
+found-record d b (Edge q l) = edge-with b q l (kind d (device-at b q))
+found-record d b None = record { i = 0; j = 0; ki = 0; c = 0; kj = 0 }
+
+-- what is needed to make it
+pub record Makes-record (bs : List ℕ) (b : State) (e : Extension) : Type 0 where
+  pub accepted : drawing-refusal bs ≡ 0
+  pub lands : (q : ℕ) → q < b .count → device-at b q < devices (drawing-in bs)
+  pub place : Can-compare b e
+
+-- HOW THE NEXT RECORD e STANDS AGAINST THE BEST behind the rows γ: there is nothing behind them, or some record first
+pub data Against (γ best : List Rec) (e : Rec) : Order → Type 0 where
+  nothing-there : best ≡ γ → Against γ best e Before
+  comes-before : (c : Rec) (rest : List Rec) → best ≡ γ ++ c ∷ rest → rec-before e c ≡ true → Against γ best e Before
+  is-there : (rest : List Rec) → best ≡ γ ++ e ∷ rest → Against γ best e Equal
+  comes-after : (c : Rec) (rest : List Rec) → best ≡ γ ++ c ∷ rest → rec-before c e ≡ true → Against γ best e After
+
+-- what the best is then: one that comes after is cut, and e is its last record
+abbrev pub chosen-rows : Order → (γ : List Rec) (e : Rec) (best : List Rec) → List Rec
+chosen-rows Before γ e best = snoc γ e
+chosen-rows Equal γ e best = best
+chosen-rows After γ e best = best
+
+-- TIES: the numberings that the ways below n lead to
+pub record Led-below (table : List ℕ) (b : State) (e : Extension) (n : ℕ) (g : List ℕ) : Type 0 where
+  pub w : ℕ
+  pub below : w < n
+  pub way : Way table b e w
+  pub is : g ≡ numbering (followed b e w)
+
+-- A START: a cable one way round
+pub record Start-from (bs table : List ℕ) (m u w k : ℕ) (best : List Rec) : Type 0 where
+  pub given : Given bs table m
+  pub has : Has u w k (drawing-in bs .cables)
+  pub so-far : Best kinds-before kinds-order (drawing-in bs) [] best
+
+-- it is passed over where the best begins with an earlier record; else all that begins so is searched
+pub data Start-done (d : Drawing) (u w k : ℕ) (best after : List Rec) : Type 0 where
+  passed :
+      (c : Rec) (rest : List Rec) → best ≡ c ∷ rest → rec-before c (first-record d u w k) ≡ true → after ≡ best
+      → Start-done d u w k best after
+  searched :
+      (first : List Rec) → Chosen kinds-before kinds-order d [] (first-record d u w k) best first
+      → Searched kinds-before kinds-order d (first-record d u w k ∷ []) (u ∷ w ∷ []) first after → Start-done d u w k best after

@@ -1,0 +1,242 @@
+-- The starts of a search: every cable of a code, seen from each end, against the code's first record; and that a code is least
+-- exactly if no start comes before it. Rests on Better, LeastCode and FollowLaws. Assumes nothing.
+use mathlib.Core.Path.{_≡_, refl, sym, ap, _∙_, subst}
+use mathlib.Core.Bool.{true}
+use mathlib.Core.List.{List, [], _∷_}
+use mathlib.Core.Logic.{inl, inr}
+use Prim.Native.Nat.{ℕ, zero, suc, _+_, _/_, _≤_, _<_}
+use native.Mathlib.Omega.{arith}
+use native.Mathlib.Decide.{decLt}
+use lib.ListN.{length, getD, take, drop}
+use Rattle.laws.specs.Tests.{false-unless}
+use Rattle.laws.specs.Rows.{row}
+use Rattle.graphs.specs.Drawing.{Cable, Drawing, devices, kind}
+use Rattle.graphs.specs.Cables.{Joins, along, against, Has, has-flip}
+use Rattle.graphs.specs.Graph.{Simple, Pattern}
+use Rattle.codes.specs.Code.{Rec, rec-in, cable-of, kinds-before, rec-before, decoded, rows-good, code-refusal, Least}
+use Rattle.codes.specs.CodeOrder.{rec-eq, rec-before-strict, kinds-order}
+use Rattle.codes.specs.ReadRows.{good-from-test}
+use Rattle.codes.specs.Greedy.{Greedy}
+use Rattle.codes.specs.FirstRecord.{first-record}
+use Rattle.codes.specs.Better.{Better, start-not-greedy, branch-not-greedy, start-greedy}
+use Rattle.codes.specs.LeastCode.{least-greedy, greedy-least-itself}
+use Rattle.codes.specs.CodeBytes.{accepted-code}
+use Rattle.codes.specs.BranchState.{first-state, Represents}
+use Rattle.codes.specs.BranchSteps.{represents-first}
+use Rattle.tables.specs.declared.«record».Order.the-variants.{Before, Equal, After}
+use Rattle.codes.specs.Code.{code-records}
+use Rattle.tables.specs.Records.{order-of}
+use Rattle.tables.specs.RecordLaws.{order-before, order-equal, order-after}
+use Rattle.tables.specs.CodeRows.{records-through, records-on, code-ten, code-simple}
+use Rattle.tables.specs.CodeCables.{code-cables, record-cable, record-i-kind, record-j-kind}
+use Rattle.least_seen.specs.Betters.{
+  Tabled,
+  Follows,
+  Better-below,
+  Seen-cable,
+  reversed-record,
+  Start-better,
+  Begins-better,
+  Some-start,
+  Tried,
+}
+
+-- A CABLE OF A LIST, where it stands
+record Cable-place (u v k : ℕ) (cs : List Cable) : Type 0 where
+  at : ℕ
+  below : at < length cs
+  joins : (z : Cable) → Joins u v (getD cs at z)
+  kind-is : (z : Cable) → getD cs at z .kind ≡ k
+
+cable-place : {u v k : ℕ} (cs : List Cable) → Has u v k cs → Cable-place u v k cs
+cable-place [] h = elim h [ ]
+cable-place (c ∷ cs) (Has.here j e) = record { at = 0; below = omega arith; joins = λ z. j; kind-is = λ z. e }
+cable-place (c ∷ cs) (Has.there h) =
+    let p = cable-place cs h in
+    record { at = suc (p .at); below = omega (arith, p .below); joins = p .joins; kind-is = p .kind-is }
+
+has-at : (cs : List Cable) (m : ℕ) (z : Cable) → m < length cs → Has (getD cs m z .a) (getD cs m z .b) (getD cs m z .kind) cs
+has-at [] m z h = absurd (omega arith)
+has-at (c ∷ cs) zero z h = Has.here (along refl refl) refl
+has-at (c ∷ cs) (suc m) z h = Has.there (has-at cs m z (omega arith))
+
+-- THE FIRST RECORD of a cable seen from one end
+abbrev pub begins : Rec → Rec
+begins e = record { i = 0; j = 1; ki = e .ki; c = e .c; kj = e .kj }
+
+begins-is : (d : Drawing) (e : Rec) → Seen-cable d e → begins e ≡ first-record d (e .i) (e .j) (e .c)
+unfolding first-record
+begins-is d e s = rec-eq _ _ refl refl (sym (s .i-kind)) refl (sym (s .j-kind))
+
+-- RECORD k OF THE CODE, seen from i and from j
+module _ (bs : List ℕ) (ok : code-refusal bs ≡ 0) (k : ℕ) (h : k < length bs / 5) (e : Rec) (is : e ≡ rec-in (row 5 k bs)) where
+  pub seen-along : Seen-cable (decoded (code-records bs)) e
+  unfolding cable-of
+  seen-along =
+      record {
+        has = rw (record-cable bs k h e is) at (has-at (decoded (code-records bs) .cables) k (cable-of e) (rw (code-cables bs) h));
+        i-kind = record-i-kind bs k h e is ok;
+        j-kind = record-j-kind bs k h e is ok;
+      }
+
+  pub seen-against : Seen-cable (decoded (code-records bs)) (reversed-record e)
+  seen-against = record { has = has-flip (seen-along .has); i-kind = seen-along .j-kind; j-kind = seen-along .i-kind }
+
+-- ONE START, from u to w, against the first record r
+module _ (d : Drawing) (r : Rec) (ss : List Rec) (u w k : ℕ) where
+  first-before : rec-before (first-record d u w k) r ≡ true → Start-better d (r ∷ ss) u w k
+  unfolding Start-better
+  first-before p = inl p
+
+  first-after : rec-before r (first-record d u w k) ≡ true → Start-better d (r ∷ ss) u w k → ⊥
+  unfolding Start-better
+  first-after p (inl q) = rec-before-strict kinds-before kinds-order .irrefl r (rec-before-strict kinds-before kinds-order .trans r _ r p q)
+  first-after p (inr m) = rec-before-strict kinds-before kinds-order .irrefl r (rw (m .0) at p)
+
+  module _ (is : first-record d u w k ≡ r) where
+    first-on : Better kinds-before d (r ∷ []) ss (u ∷ w ∷ []) → Start-better d (r ∷ ss) u w k
+    unfolding Start-better
+    first-on m = inr (is, m)
+
+    first-from : Start-better d (r ∷ ss) u w k → Better kinds-before d (r ∷ []) ss (u ∷ w ∷ [])
+    unfolding Start-better
+    first-from (inl q) = absurd (rec-before-strict kinds-before kinds-order .irrefl r (rw is at q))
+    first-from (inr m) = m .1
+
+-- of the code itself
+module _ {t bs : List ℕ} (T : Tabled t bs) {e : Rec} (s : Seen-cable (decoded (code-records bs)) e) where
+  some : 0 < length bs / 5
+  some = omega (arith, accepted-code bs (T .accepted) .one)
+
+  -- the code's first record, and the rest
+  to : Start-better (decoded (code-records bs)) (rec-in (row 5 0 bs) ∷ drop 1 (code-records bs)) (e .i) (e .j) (e .c)
+      → Begins-better bs (e .i) (e .j) (e .c)
+  to m =
+      subst (λ (rs : List Rec). Start-better (decoded (code-records bs)) rs (e .i) (e .j) (e .c))
+      (sym (records-on bs 0 some (rec-in (row 5 0 bs)) refl)) m
+
+  from : Begins-better bs (e .i) (e .j) (e .c)
+      → Start-better (decoded (code-records bs)) (rec-in (row 5 0 bs) ∷ drop 1 (code-records bs)) (e .i) (e .j) (e .c)
+  from m =
+      subst (λ (rs : List Rec). Start-better (decoded (code-records bs)) rs (e .i) (e .j) (e .c))
+      (records-on bs 0 some (rec-in (row 5 0 bs)) refl) m
+
+  pub start-before : order-of (begins e) (rec-in (row 5 0 bs)) ≡ Before → Begins-better bs (e .i) (e .j) (e .c)
+  start-before o =
+      to (first-before (decoded (code-records bs)) _ _ (e .i) (e .j) (e .c)
+      (rw (← begins-is (decoded (code-records bs)) e s) (order-before (begins e) _ o)))
+
+  pub start-after : order-of (begins e) (rec-in (row 5 0 bs)) ≡ After → Begins-better bs (e .i) (e .j) (e .c) → ⊥
+  start-after o m =
+      first-after (decoded (code-records bs)) _ _ (e .i) (e .j) (e .c)
+      (rw (← begins-is (decoded (code-records bs)) e s) (order-after (begins e) _ o)) (from m)
+
+  pub seen-low : (e .i < 10) × (e .j < 10)
+  seen-low =
+      let ends = code-simple bs (T .accepted) .ends in
+      let ten = code-ten bs (T .accepted) in
+      (omega (arith, ends (e .i) (e .j) (e .c) (s .has)), omega (arith, ends (e .j) (e .i) (e .c) (has-flip (s .has))))
+
+  module _ (o : order-of (begins e) (rec-in (row 5 0 bs)) ≡ Equal) where
+    first-is : first-record (decoded (code-records bs)) (e .i) (e .j) (e .c) ≡ rec-in (row 5 0 bs)
+    first-is = sym (begins-is (decoded (code-records bs)) e s) ∙ order-equal (begins e) _ o
+
+    through : take 1 (code-records bs) ≡ rec-in (row 5 0 bs) ∷ []
+    through = records-through bs 0 some (rec-in (row 5 0 bs)) refl
+
+    pub start-follows : Follows t bs 1 (first-state (e .i) (e .j))
+    start-follows =
+        record {
+          tabled = T;
+          within = some;
+          branch =
+              subst (λ (γ : List Rec). Represents (decoded (code-records bs)) γ (first-state (e .i) (e .j)))
+              (ap (λ (z : Rec). z ∷ []) first-is ∙ sym through)
+              (represents-first _ (code-simple bs (T .accepted)) (code-ten bs (T .accepted)) (e .i) (e .j) (e .c) (s .has));
+        }
+
+    pub start-tells : Better-below bs 1 (first-state (e .i) (e .j)) → Begins-better bs (e .i) (e .j) (e .c)
+    start-tells m =
+        to (first-on (decoded (code-records bs)) _ _ (e .i) (e .j) (e .c) first-is
+        (subst (λ (γ : List Rec). Better kinds-before (decoded (code-records bs)) γ (drop 1 (code-records bs)) (e .i ∷ e .j ∷ [])) through m))
+
+    pub start-asks : Begins-better bs (e .i) (e .j) (e .c) → Better-below bs 1 (first-state (e .i) (e .j))
+    start-asks m =
+        subst (λ (γ : List Rec). Better kinds-before (decoded (code-records bs)) γ (drop 1 (code-records bs)) (e .i ∷ e .j ∷ [])) (sym through)
+        (first-from (decoded (code-records bs)) _ _ (e .i) (e .j) (e .c) first-is (from m))
+
+-- ALL STARTS, record by record
+module _ (bs : List ℕ) where
+  pub tried-start : Tried bs 0
+  tried-start = record { along = λ m h. absurd (omega arith); against = λ m h. absurd (omega arith) }
+
+  pub tried-next :
+      (n : ℕ) (e : Rec) → e ≡ rec-in (row 5 n bs) → Tried bs n
+      → (Begins-better bs (e .i) (e .j) (e .c) → ⊥)
+      → (Begins-better bs (e .j) (e .i) (e .c) → ⊥) → Tried bs (n + 1)
+  tried-next n e is before a b =
+      record { along = λ m h x q y. along-at m h x q y (decLt m n); against = λ m h x q y. against-at m h x q y (decLt m n) }
+    where
+      same : (m : ℕ) → m < n + 1 → (m < n → ⊥) → (x : Rec) → x ≡ rec-in (row 5 m bs) → x ≡ e
+      same m h l x q = let z : m ≡ n = omega arith in q ∙ ap (λ (k : ℕ). rec-in (row 5 k bs)) z ∙ sym is
+
+      along-at :
+          (m : ℕ) → m < n + 1 → (x : Rec) → x ≡ rec-in (row 5 m bs)
+          → Begins-better bs (x .i) (x .j) (x .c) → Dec (m < n) → ⊥
+      along-at m h x q y (yes l) = before .along m l x q y
+      along-at m h x q y (no l) = a (rw (same m h l x q) at y)
+
+      against-at :
+          (m : ℕ) → m < n + 1 → (x : Rec) → x ≡ rec-in (row 5 m bs)
+          → Begins-better bs (x .j) (x .i) (x .c) → Dec (m < n) → ⊥
+      against-at m h x q y (yes l) = before .against m l x q y
+      against-at m h x q y (no l) = b (rw (same m h l x q) at y)
+
+  -- every cable is that of some record
+  pub tried-all : (n : ℕ) → length bs / 5 ≤ n → Tried bs n → Some-start (code-records bs) → ⊥
+  unfolding cable-of
+  tried-all n h T s = go (cable-place (decoded (code-records bs) .cables) (s .has))
+    where
+      go : Cable-place (s .u) (s .w) (s .k) (decoded (code-records bs) .cables) → ⊥
+      go p = end (rw is at (p .joins (cable-of e))) (rw is at (p .kind-is (cable-of e)))
+        where
+          e : Rec
+          e = rec-in (row 5 (p .at) bs)
+
+          low : p .at < length bs / 5
+          low = omega (arith, p .below, code-cables bs)
+
+          is : getD (decoded (code-records bs) .cables) (p .at) (cable-of e) ≡ cable-of e
+          is = record-cable bs (p .at) low e refl
+
+          end : Joins (s .u) (s .w) (cable-of e) → cable-of e .kind ≡ s .k → ⊥
+          end (along x y) z =
+              T .along (p .at) (omega (arith, low)) e refl (rw (x, y, z) (s .better))
+          end (against x y) z =
+              T .against (p .at) (omega (arith, low)) e refl (rw (x, y, z) (s .better))
+
+-- A CODE IS LEAST exactly if no start comes before it
+branch-clash :
+    (d : Drawing) → Simple d → devices d ≤ 10 → (u w k : ℕ) → Has u w k (d .cables) → (r : Rec) (ss : List Rec) → first-record d u w k ≡ r
+    → Better kinds-before d (r ∷ []) ss (u ∷ w ∷ []) → Greedy kinds-before d [] (r ∷ ss) → ⊥
+branch-clash d s ten u w k h r ss q =
+    subst (λ (z : Rec). Better kinds-before d (z ∷ []) ss (u ∷ w ∷ []) → Greedy kinds-before d [] (z ∷ ss) → ⊥) q
+    (branch-not-greedy kinds-before d s ten u w k h ss)
+
+pub some-not-least : (rs : List Rec) → Pattern (decoded rs) → Some-start rs → Least (decoded rs) rs → ⊥
+unfolding Start-better
+some-not-least [] p s l = s .better
+some-not-least (r ∷ ss) p s l = go (s .better) (least-greedy kinds-before kinds-order (decoded (r ∷ ss)) p (r ∷ ss) l)
+  where
+    go : Start-better (decoded (r ∷ ss)) (r ∷ ss) (s .u) (s .w) (s .k) → Greedy kinds-before (decoded (r ∷ ss)) [] (r ∷ ss) → ⊥
+    go (inl q) g = start-not-greedy kinds-before (decoded (r ∷ ss)) (p .simple) (s .u) (s .w) (s .k) (s .has) r ss q g
+    go (inr m) g = branch-clash (decoded (r ∷ ss)) (p .simple) (p .devices-high) (s .u) (s .w) (s .k) (s .has) r ss (m .0) (m .1) g
+
+pub none-least : (rs : List Rec) → rows-good rs ≡ true → Pattern (decoded rs) → (Some-start rs → ⊥) → Least (decoded rs) rs
+unfolding Start-better
+none-least [] good p n = absurd (omega (arith, good-from-test [] good .one))
+none-least (r ∷ ss) good p n =
+    greedy-least-itself kinds-before kinds-order r ss good
+    (start-greedy kinds-before (decoded (r ∷ ss)) (p .simple) r ss (good-from-test (r ∷ ss) good .accepted)
+    (λ u w k h. false-unless _ (λ z. n (record { u = u; w = w; k = k; has = h; better = inl z })))
+    (λ u w k h q m. n (record { u = u; w = w; k = k; has = h; better = inr (q, m) })))

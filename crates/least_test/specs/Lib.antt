@@ -1,0 +1,3 @@
+-- Laws.
+pub mod LeastStarts
+pub mod FrontLaws

@@ -1,0 +1,42 @@
+-- Mining a survey, kind by kind of device 0: what it asks, and what stands in the output meanwhile and in the end. Assumes
+-- nothing: these are definitions.
+use mathlib.Core.Path.{_≡_}
+use mathlib.Core.List.{List, []}
+use Prim.Native.Nat.{ℕ, _*_, _≤_}
+use lib.ListN.{length}
+use Rattle.codes.specs.Code.{Rec, kinds-before}
+use Rattle.codes.specs.CodeOrder.{kinds-order}
+use Rattle.growth.specs.Growth.{Listed, Listed-by}
+use Rattle.growth.specs.Frequent.{Frequent}
+use Rattle.growth.specs.Firsts.{Firsts}
+use Rattle.growing.specs.declared.grow.Growth.{Growth}
+use Rattle.growing.specs.declared.grow.Settings.{Settings}
+use Rattle.walks.specs.LabelMarks.{drawings-of}
+use Rattle.walks.specs.Counts.{Blank}
+use Rattle.growing.specs.GrowthOutcomes.{Set-up, Lists, Outcome}
+
+pub record Can-mine (survey labels rank alphabet : List ℕ) (g : Settings) (cells seen list : List ℕ) : Type 0 where
+  pub set-up : Set-up survey labels rank alphabet g
+  pub some : 1 ≤ g .limit
+  pub blank : Blank cells seen
+  pub list-size : length list ≡ 163840
+
+-- ALL FREQUENT LEAST CODES are listed, or they do not fit
+abbrev pub Mined : (survey : List ℕ) (g : Settings) (out : List ℕ) → Growth → (out-now : List ℕ) → Type 0
+Mined survey g out r z =
+    Outcome (drawings-of survey) (g .threshold) (g .limit)
+    (Listed kinds-before kinds-order (Frequent kinds-before (drawings-of survey) (g .threshold)) (g .limit) []) [] out z r
+
+-- MEANWHILE: those whose device 0 has a kind below k
+pub record Kinds-done (survey : List ℕ) (g : Settings) (out : List ℕ) (k : ℕ) (cells seen list out-now : List ℕ) (written : ℕ) : Type 0 where
+  pub low : k ≤ 256
+  pub blank : Blank cells seen
+  pub list-size : length list ≡ 163840
+  pub size : length out-now ≡ length out
+  pub room : 42 * written ≤ length out-now
+  pub firsts : List Rec
+  pub codes : List (List Rec)
+  pub first : Firsts (drawings-of survey) (g .threshold) k firsts
+  pub listed :
+      Listed-by kinds-before kinds-order (Frequent kinds-before (drawings-of survey) (g .threshold)) (g .limit) [] firsts codes
+  pub lists : Lists (drawings-of survey) codes out out-now written

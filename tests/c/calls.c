@@ -1,0 +1,115 @@
+/* Every call from C: an answer and a refusal of each, every byte of the lent output, and the number taken apart by the header.
+ * Prints nothing and returns 0 where all is as the paper says. Builds as C99 and as C++. */
+#include <stdio.h>
+#include <string.h>
+
+#include "holvreiz.h"
+
+static int failures = 0;
+
+static void expect(int holds, int line) {
+    if (!holds) {
+        printf("tests/c/calls.c:%d: not as expected\n", line);
+        failures++;
+    }
+}
+
+#define EXPECT(condition) expect((condition) ? 1 : 0, __LINE__)
+
+/* Whether the number has this refusal, count and drawing. */
+static int is(uint64_t returned, uint32_t refusal, uint32_t count, uint32_t drawing) {
+    return holvreiz_refusal(returned) == refusal && holvreiz_count(returned) == count && holvreiz_drawing(returned) == drawing;
+}
+
+/* Whether `count` bytes have this value. */
+static int all(const uint8_t *bytes, size_t count, uint8_t value) {
+    for (size_t at = 0; at < count; at++) {
+        if (bytes[at] != value) {
+            return 0;
+        }
+    }
+    return 1;
+}
+
+enum { LENT = 200, MARK = 170 };
+
+static uint8_t output[LENT];
+
+static void lend(void) { memset(output, MARK, LENT); }
+
+/* A path of three devices (D3), a triangle (D4), of kind 1 and cable 5; D3 without its second cable, which leaves a device apart. */
+static const uint8_t path[72] = {3, 2, 1, 1, 1, 0, 0, 0, 0, 0, 0, 0, 0, 1, 5, 1, 2, 5};
+static const uint8_t triangle[72] = {3, 3, 1, 1, 1, 0, 0, 0, 0, 0, 0, 0, 0, 1, 5, 1, 2, 5, 2, 0, 5};
+static const uint8_t apart[72] = {3, 1, 1, 1, 1, 0, 0, 0, 0, 0, 0, 0, 0, 1, 5};
+static const uint8_t path_code[10] = {0, 1, 1, 5, 1, 1, 2, 1, 5, 1};
+static const uint8_t fork_code[10] = {0, 1, 1, 5, 1, 0, 2, 1, 5, 1};
+static const uint8_t no_code[10] = {0, 1, 1, 5, 1, 1, 0, 1, 5, 1};
+
+static void codes(void) {
+    lend();
+    EXPECT(is(holvreiz_code(path, 72, output, LENT), HOLVREIZ_ANSWERED, 10, 0));
+    EXPECT(memcmp(output, path_code, 10) == 0 && all(output + 10, LENT - 10, MARK));
+    lend();
+    EXPECT(is(holvreiz_code(path, 72, output, 9), HOLVREIZ_OUTPUT_LENGTH, 0, 0) && all(output, LENT, MARK));
+    EXPECT(is(holvreiz_code(path, 71, output, LENT), HOLVREIZ_DRAWING_LENGTH, 0, 0) && all(output, LENT, MARK));
+    EXPECT(is(holvreiz_code(apart, 72, output, LENT), HOLVREIZ_NOT_CONNECTED, 0, 0) && all(output, LENT, MARK));
+
+    EXPECT(is(holvreiz_decode(path_code, 10, output, LENT), HOLVREIZ_ANSWERED, 72, 0));
+    EXPECT(memcmp(output, path, 72) == 0 && all(output + 72, LENT - 72, MARK));
+    lend();
+    EXPECT(is(holvreiz_decode(path_code, 10, output, 71), HOLVREIZ_OUTPUT_LENGTH, 0, 0) && all(output, LENT, MARK));
+    EXPECT(is(holvreiz_decode(no_code, 10, output, LENT), HOLVREIZ_STEP, 0, 0) && all(output, LENT, MARK));
+
+    EXPECT(is(holvreiz_is_least(path_code, 10), HOLVREIZ_ANSWERED, 1, 0));
+    EXPECT(is(holvreiz_is_least(fork_code, 10), HOLVREIZ_ANSWERED, 0, 0));
+    EXPECT(is(holvreiz_is_least(path_code, 9), HOLVREIZ_CODE_LENGTH, 0, 0));
+
+    EXPECT(is(holvreiz_compare(path_code, 10, path_code, 10), HOLVREIZ_ANSWERED, 0, 0));
+    EXPECT(is(holvreiz_compare(path_code, 10, fork_code, 10), HOLVREIZ_ANSWERED, 1, 0));
+    EXPECT(is(holvreiz_compare(path_code, 10, path_code, 5), HOLVREIZ_ANSWERED, 2, 0));
+    EXPECT(is(holvreiz_compare(no_code, 10, path_code, 9), HOLVREIZ_STEP, 0, 0));
+    EXPECT(is(holvreiz_compare(path_code, 10, path_code, 9), HOLVREIZ_CODE_LENGTH, 0, 0));
+}
+
+static void maps(void) {
+    static const uint8_t map[3] = {0, 1, 2};
+
+    lend();
+    EXPECT(is(holvreiz_match(path, 72, triangle, 72, output, LENT), HOLVREIZ_ANSWERED, 3, 0));
+    EXPECT(memcmp(output, map, 3) == 0 && all(output + 3, LENT - 3, MARK));
+    lend();
+    EXPECT(is(holvreiz_match(triangle, 72, path, 72, output, LENT), HOLVREIZ_ANSWERED, 0, 0) && all(output, LENT, MARK));
+    EXPECT(is(holvreiz_match(path, 72, triangle, 72, output, 2), HOLVREIZ_OUTPUT_LENGTH, 0, 0) && all(output, LENT, MARK));
+    EXPECT(is(holvreiz_match(path, 72, apart, 72, output, LENT), HOLVREIZ_NOT_CONNECTED, 0, 0) && all(output, LENT, MARK));
+
+    EXPECT(is(holvreiz_same(path, 72, path, 72), HOLVREIZ_ANSWERED, 1, 0));
+    EXPECT(is(holvreiz_same(path, 72, triangle, 72), HOLVREIZ_ANSWERED, 0, 0));
+    EXPECT(is(holvreiz_same(path, 0, triangle, 72), HOLVREIZ_DRAWING_LENGTH, 0, 0));
+}
+
+static void catalogues(void) {
+    uint8_t survey[3 * 72];
+    memcpy(survey, path, 72);
+    memcpy(survey + 72, triangle, 72);
+    memcpy(survey + 144, apart, 72);
+
+    lend();
+    EXPECT(is(holvreiz_catalogue(survey, 144, 1, 4, output, LENT), HOLVREIZ_ANSWERED, 3, 0));
+    EXPECT(output[0] == 1 && output[1] == 2 && output[42] == 2 && output[43] == 2 && output[84] == 3 && output[85] == 1);
+    EXPECT(memcmp(output + 44, path_code, 10) == 0 && all(output + 54, 30, 0) && all(output + 126, LENT - 126, MARK));
+    lend();
+    EXPECT(is(holvreiz_catalogue(survey, 144, 1, 4, output, 125), HOLVREIZ_OUTPUT_LENGTH, 0, 0));
+    EXPECT(all(output, 125, 0) && all(output + 125, LENT - 125, MARK));
+    lend();
+    EXPECT(is(holvreiz_catalogue(survey, 216, 1, 4, output, LENT), HOLVREIZ_NOT_CONNECTED, 0, 2) && all(output, LENT, MARK));
+    EXPECT(is(holvreiz_catalogue(survey, 144, 0, 9, output, LENT), HOLVREIZ_THRESHOLD, 0, 0) && all(output, LENT, MARK));
+    EXPECT(is(holvreiz_catalogue(survey, 144, 32, 9, output, LENT), HOLVREIZ_SIZE_LIMIT, 0, 0) && all(output, LENT, MARK));
+    EXPECT(is(holvreiz_catalogue(survey, 0, 1, 4, output, LENT), HOLVREIZ_SURVEY_LENGTH, 0, 0) && all(output, LENT, MARK));
+}
+
+int main(void) {
+    codes();
+    maps();
+    catalogues();
+    return failures != 0;
+}

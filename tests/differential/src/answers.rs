@@ -1,0 +1,184 @@
+//! What each call answers and leaves in the lent bytes, by the paper's table of refusals and the other algorithms.
+use crate::catalogue::{self, Entry};
+use crate::code;
+use crate::drawing::{Drawing, RECORD};
+use crate::map;
+use crate::refused::Refused;
+use std::cmp::Ordering;
+
+/// Whose refusal it is.
+pub const FIRST: &str = "";
+pub const SECOND: &str = ", the second";
+pub const LATER: &str = ", a later drawing";
+
+#[derive(Clone, Debug, PartialEq, Eq)]
+pub struct Answer {
+    /// The answer in a word, or whose refusal it is.
+    pub said: &'static str,
+    /// Number 0 where the call is not turned back.
+    pub refused: Refused,
+    pub count: usize,
+    /// The lent bytes after the call.
+    pub output: Vec<u8>,
+}
+
+impl Answer {
+    fn counted(said: &'static str, count: usize) -> Self {
+        Answer::written(said, count, &[], &[])
+    }
+
+    /// The bytes in front, and behind them what was there.
+    fn written(said: &'static str, count: usize, bytes: &[u8], lent: &[u8]) -> Self {
+        Answer {
+            said,
+            refused: Refused::of(0),
+            count,
+            output: [bytes, &lent[bytes.len()..]].concat(),
+        }
+    }
+
+    /// A refusal writes nothing.
+    fn refused(refused: Refused, whose: &'static str, lent: &[u8]) -> Self {
+        Answer {
+            said: whose,
+            refused,
+            count: 0,
+            output: lent.to_vec(),
+        }
+    }
+}
+
+/// The first of two is checked fully before the second.
+fn both<T, E>(first: Result<T, E>, second: Result<T, E>) -> Result<(T, T), (E, &'static str)> {
+    let first = first.map_err(|refused| (refused, FIRST))?;
+    let second = second.map_err(|refused| (refused, SECOND))?;
+    Ok((first, second))
+}
+
+pub fn check_drawing(drawing: &[u8]) -> Answer {
+    match Drawing::read(drawing) {
+        Err(number) => Answer::refused(Refused::of(number), FIRST, &[]),
+        Ok(_) => Answer::counted("accepted", 0),
+    }
+}
+
+pub fn check_code(bytes: &[u8]) -> Answer {
+    match code::read(bytes) {
+        Err(refused) => Answer::refused(refused, FIRST, &[]),
+        Ok(_) => Answer::counted("accepted", 0),
+    }
+}
+
+/// Whose refusal one of a survey is.
+fn of_survey(refused: &Refused) -> &'static str {
+    if refused.at == 0 {
+        FIRST
+    } else {
+        LATER
+    }
+}
+
+pub fn check_survey(survey: &[u8]) -> Answer {
+    match catalogue::read_survey(survey) {
+        Err(refused) => Answer::refused(refused, of_survey(&refused), &[]),
+        Ok(drawings) => Answer::counted("accepted", drawings.len()),
+    }
+}
+
+pub fn code(drawing: &[u8], lent: &[u8]) -> Answer {
+    match Drawing::read(drawing) {
+        Err(number) => Answer::refused(Refused::of(number), FIRST, lent),
+        Ok(read) if lent.len() < code::RECORD * read.cables.len() => {
+            Answer::refused(Refused::of(15), FIRST, lent)
+        }
+        Ok(read) => {
+            let bytes = code::bytes(&code::least(&read));
+            Answer::written("written", bytes.len(), &bytes, lent)
+        }
+    }
+}
+
+pub fn decode(bytes: &[u8], lent: &[u8]) -> Answer {
+    match code::read(bytes) {
+        Err(refused) => Answer::refused(refused, FIRST, lent),
+        Ok(_) if lent.len() < RECORD => Answer::refused(Refused::of(15), FIRST, lent),
+        Ok(code) => Answer::written("written", RECORD, &code::described(&code).record(), lent),
+    }
+}
+
+pub fn is_least(bytes: &[u8]) -> Answer {
+    match code::read(bytes) {
+        Err(refused) => Answer::refused(refused, FIRST, &[]),
+        Ok(code) if code == code::least(&code::described(&code)) => Answer::counted("yes", 1),
+        Ok(_) => Answer::counted("no", 0),
+    }
+}
+
+pub fn compare(first: &[u8], second: &[u8]) -> Answer {
+    match both(code::read(first), code::read(second)) {
+        Err((refused, whose)) => Answer::refused(refused, whose, &[]),
+        Ok((first, second)) => match code::order(&first, &second) {
+            Ordering::Equal => Answer::counted("equal", 0),
+            Ordering::Less => Answer::counted("before", 1),
+            Ordering::Greater => Answer::counted("after", 2),
+        },
+    }
+}
+
+pub fn match_drawing(pattern: &[u8], drawing: &[u8], lent: &[u8]) -> Answer {
+    match both(Drawing::read(pattern), Drawing::read(drawing)) {
+        Err((number, whose)) => Answer::refused(Refused::of(number), whose, lent),
+        Ok((pattern, _)) if lent.len() < pattern.devices() => {
+            Answer::refused(Refused::of(15), FIRST, lent)
+        }
+        Ok((pattern, drawing)) => match map::least_map(&pattern, &drawing) {
+            Some(map) => Answer::written("map", map.len(), &map, lent),
+            None => Answer::written("not contained", 0, &[], lent),
+        },
+    }
+}
+
+pub fn same(first: &[u8], second: &[u8]) -> Answer {
+    match both(Drawing::read(first), Drawing::read(second)) {
+        Err((number, whose)) => Answer::refused(Refused::of(number), whose, &[]),
+        Ok((first, second)) if map::same(&first, &second) => Answer::counted("yes", 1),
+        Ok(_) => Answer::counted("no", 0),
+    }
+}
+
+/// Of the entries that the whole answer has, or why there is none.
+pub fn catalogue(entries: &Result<Vec<Entry>, Refused>, lent: &[u8]) -> Answer {
+    match entries {
+        Err(refused) => Answer::refused(*refused, of_survey(refused), lent),
+        Ok(entries) if lent.len() < entries.len() * catalogue::ENTRY => {
+            Answer::refused(Refused::of(15), FIRST, &vec![0; lent.len()])
+        }
+        Ok(entries) if entries.is_empty() => Answer::written("no entry", 0, &[], lent),
+        Ok(entries) => {
+            let bytes = catalogue::bytes(entries);
+            Answer::written("entries", entries.len(), &bytes, lent)
+        }
+    }
+}
+
+/// Opening checks the length place only.
+pub fn open(survey: &[u8]) -> Answer {
+    match catalogue::read_length(survey) {
+        Err(refused) => Answer::refused(refused, FIRST, &[]),
+        Ok(_) => Answer::counted("opened", 0),
+    }
+}
+
+/// A fetch from the reader that opening gives; the output is the part of the survey.
+pub fn fetch(survey: &[u8], d: usize) -> Answer {
+    match catalogue::read_length(survey) {
+        Ok(drawings) if d < drawings => {
+            let part = survey[RECORD * d..][..RECORD].to_vec();
+            Answer {
+                output: part,
+                ..Answer::counted("fetched", 0)
+            }
+        }
+        _ => Answer::refused(Refused::of(14), FIRST, &[]),
+    }
+}

@@ -1,0 +1,14 @@
+//! Another implementation of every call, by other algorithms and from a second reading of the paper: all numberings of the
+//! devices, all maps, all sets of cables. Nothing here calls the proved library.
+pub mod answers;
+pub mod catalogue;
+pub mod code;
+pub mod drawing;
+pub mod generate;
+pub mod map;
+pub mod random;
+pub mod refused;
+pub mod shims;
+#[cfg(test)]
+mod tests;
+pub mod vectors;

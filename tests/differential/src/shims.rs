@@ -1,0 +1,351 @@
+//! Tests of the tests: libraries that each spoil one kind of answer, in one byte, a count, a refusal or its drawing. A shim takes what the
+//! library returned and wrote, and changes it where its kind of answer is given; the comparison has to notice every one of them.
+use crate::drawing::RECORD;
+
+/// A call with what it was given. Of two drawings or codes `first` is the first; a catalogue has its settings in `settings`.
+pub struct Given<'a> {
+    pub call: &'static str,
+    pub first: &'a [u8],
+    pub second: &'a [u8],
+    pub settings: (u32, u32),
+}
+
+/// What came back: the number returned and the lent bytes.
+pub struct Came<'a> {
+    pub returned: &'a mut u64,
+    pub output: &'a mut [u8],
+}
+
+impl Came<'_> {
+    fn count(&self) -> usize {
+        (*self.returned & 0xffff_ffff) as usize
+    }
+
+    fn refusal(&self) -> u8 {
+        (*self.returned >> 32) as u8
+    }
+
+    fn drawing(&self) -> u64 {
+        *self.returned >> 40
+    }
+
+    fn answered(&self) -> bool {
+        self.refusal() == 0
+    }
+
+    fn set_refusal(&mut self, number: u8) {
+        *self.returned = *self.returned & !(0xff << 32) | u64::from(number) << 32;
+    }
+
+    /// Changes the byte at a place of the output, if it is there.
+    fn spoil(&mut self, at: usize) {
+        if let Some(byte) = self.output.get_mut(at) {
+            *byte ^= 1;
+        }
+    }
+
+    /// The byte behind the last `size` bytes of each thing that is counted.
+    fn spoil_behind(&mut self, size: usize) {
+        if self.answered() {
+            self.spoil(self.count() * size);
+        }
+    }
+
+    /// The support of each entry whose 42 bytes are such, but of the first `many` alone.
+    fn spoil_supports(&mut self, wanted: impl Fn(&[u8]) -> bool) {
+        if self.answered() {
+            let count = self.count();
+            for entry in self.output.chunks_mut(42).take(count) {
+                if wanted(entry) {
+                    entry[1] ^= 1;
+                }
+            }
+        }
+    }
+}
+
+type Spoil = fn(&Given, &mut Came);
+
+fn devices(drawing: &[u8]) -> u8 {
+    drawing.first().copied().unwrap_or(0)
+}
+
+fn cables(drawing: &[u8]) -> u8 {
+    drawing.get(1).copied().unwrap_or(0)
+}
+
+/// The records of an entry.
+fn records(entry: &[u8]) -> std::slice::Chunks<'_, u8> {
+    entry[2..][..5 * usize::from(entry[0])].chunks(5)
+}
+
+fn entry_devices(entry: &[u8]) -> u8 {
+    records(entry)
+        .map(|r| r[0].max(r[1]) + 1)
+        .max()
+        .unwrap_or(0)
+}
+
+/// The call that each one spoils, what it spoils, and how.
+pub const SHIMS: &[(&str, &str, Spoil)] = &[
+    (
+        "code",
+        "drawings of 10 devices and 20 cables",
+        |given, came| {
+            if came.answered() && devices(given.first) == 10 && cables(given.first) == 20 {
+                came.spoil(99);
+            }
+        },
+    ),
+    (
+        "code",
+        "drawings of one cable, a byte more counted",
+        |given, came| {
+            if came.answered() && cables(given.first) == 1 {
+                *came.returned += 1;
+            }
+        },
+    ),
+    ("code", "records with a kind of 255", |_, came| {
+        if came.answered() {
+            let count = came.count();
+            if let Some(at) = came.output[..count].iter().position(|&byte| byte == 255) {
+                came.spoil(at);
+            }
+        }
+    }),
+    ("code", "the byte behind the code", |_, came| {
+        came.spoil_behind(1)
+    }),
+    ("code", "8 told as 7", |_, came| {
+        if came.refusal() == 8 {
+            came.set_refusal(7);
+        }
+    }),
+    ("code", "15 with the last byte written", |_, came| {
+        if came.refusal() == 15 {
+            came.spoil(came.output.len().wrapping_sub(1));
+        }
+    }),
+    ("decode", "the kind of a tenth device", |_, came| {
+        if came.answered() && came.output.first() == Some(&10) {
+            came.spoil(11);
+        }
+    }),
+    ("decode", "the kind of a twentieth cable", |_, came| {
+        if came.answered() && came.output.get(1) == Some(&20) {
+            came.spoil(71);
+        }
+    }),
+    ("decode", "the ends of a cable exchanged", |_, came| {
+        if came.answered() && came.output.len() > 16 {
+            came.output.swap(15, 16);
+        }
+    }),
+    ("decode", "the byte behind the drawing", |_, came| {
+        came.spoil_behind(1)
+    }),
+    ("decode", "11 told as 10", |_, came| {
+        if came.refusal() == 11 {
+            came.set_refusal(10);
+        }
+    }),
+    ("is_least", "codes of 20 records", |given, came| {
+        if came.answered() && given.first.len() == 100 {
+            *came.returned ^= 1;
+        }
+    }),
+    ("is_least", "no for codes of ten devices", |given, came| {
+        if came.count() == 1 && given.first.chunks(5).any(|r| r[1] == 9) {
+            *came.returned = 0;
+        }
+    }),
+    ("is_least", "9 told as 10", |_, came| {
+        if came.refusal() == 9 {
+            came.set_refusal(10);
+        }
+    }),
+    ("compare", "a code that begins another", |given, came| {
+        let shorter = given.first.len().min(given.second.len());
+        if came.answered() && came.count() != 0 && given.first[..shorter] == given.second[..shorter]
+        {
+            *came.returned = 3 - *came.returned;
+        }
+    }),
+    (
+        "compare",
+        "codes that differ in the last byte alone",
+        |given, came| {
+            let last = given.first.len().saturating_sub(1);
+            if came.answered()
+                && given.first.len() == given.second.len()
+                && given.first[..last] == given.second[..last]
+            {
+                *came.returned = 0;
+            }
+        },
+    ),
+    (
+        "compare",
+        "the second's refusal told as another",
+        |_, came| {
+            if came.refusal() == 10 {
+                came.set_refusal(11);
+            }
+        },
+    ),
+    ("match", "maps of ten devices", |_, came| {
+        if came.answered() && came.count() == 10 {
+            came.spoil(9);
+        }
+    }),
+    (
+        "match",
+        "patterns of 20 cables are not contained",
+        |given, came| {
+            if came.answered() && cables(given.first) == 20 {
+                *came.returned = 0;
+            }
+        },
+    ),
+    ("match", "devices of kind 200 or more", |given, came| {
+        if came.answered()
+            && came.count() > 0
+            && given.first.get(2).is_some_and(|&kind| kind >= 200)
+        {
+            came.spoil(0);
+        }
+    }),
+    ("match", "the byte behind the map", |_, came| {
+        came.spoil_behind(1)
+    }),
+    ("match", "6 told as 5", |_, came| {
+        if came.refusal() == 6 {
+            came.set_refusal(5);
+        }
+    }),
+    ("same", "drawings of ten devices", |given, came| {
+        if came.answered() && devices(given.first) == 10 {
+            *came.returned ^= 1;
+        }
+    }),
+    (
+        "same",
+        "yes wherever the counts are equal",
+        |given, came| {
+            if came.answered() && given.first[..2] == given.second[..2] {
+                *came.returned = 1;
+            }
+        },
+    ),
+    ("same", "4 told as 3", |_, came| {
+        if came.refusal() == 4 {
+            came.set_refusal(3);
+        }
+    }),
+    (
+        "catalogue",
+        "supports of patterns of nine devices",
+        |_, came| {
+            came.spoil_supports(|entry| entry_devices(entry) == 9);
+        },
+    ),
+    (
+        "catalogue",
+        "supports of patterns with a ring of eight cables",
+        |_, came| {
+            came.spoil_supports(|entry| {
+                entry[0] == 8 && records(entry).last().is_some_and(|r| r[1] < r[0])
+            });
+        },
+    ),
+    (
+        "catalogue",
+        "supports where cable kind and kind of j are 200 or more",
+        |_, came| {
+            came.spoil_supports(|entry| records(entry).any(|r| r[3] >= 200 && r[4] >= 200));
+        },
+    ),
+    (
+        "catalogue",
+        "supports in catalogues of over 20,000 entries",
+        |_, came| {
+            if came.count() > 20_000 {
+                came.spoil(42 * 20_000 + 1);
+            }
+        },
+    ),
+    ("catalogue", "supports of 32", |_, came| {
+        came.spoil_supports(|entry| entry[1] == 32)
+    }),
+    (
+        "catalogue",
+        "the last record of an eighth cable",
+        |_, came| {
+            if came.answered() {
+                let count = came.count();
+                for entry in came
+                    .output
+                    .chunks_mut(42)
+                    .take(count)
+                    .filter(|entry| entry[0] == 8)
+                {
+                    entry[41] ^= 1;
+                }
+            }
+        },
+    ),
+    ("catalogue", "zeros behind an entry's records", |_, came| {
+        if came.answered() && came.count() > 0 && came.output[0] < 8 {
+            came.spoil(41);
+        }
+    }),
+    ("catalogue", "the last entry left out", |_, came| {
+        if came.count() > 0 {
+            *came.returned -= 1;
+        }
+    }),
+    ("catalogue", "two entries exchanged", |_, came| {
+        if came.count() > 1 {
+            let (first, rest) = came.output.split_at_mut(42);
+            first.swap_with_slice(&mut rest[..42]);
+        }
+    }),
+    ("catalogue", "the byte behind the entries", |_, came| {
+        came.spoil_behind(42)
+    }),
+    ("catalogue", "15 with a byte that is not zero", |_, came| {
+        if came.refusal() == 15 {
+            came.spoil(came.output.len() / 2);
+        }
+    }),
+    (
+        "catalogue",
+        "the last of 32 drawings told as the one before",
+        |given, came| {
+            if came.drawing() == 31 && given.first.len() == 32 * RECORD {
+                *came.returned -= 1 << 40;
+            }
+        },
+    ),
+    ("catalogue", "13 told before 12", |given, came| {
+        if came.refusal() == 12 && !(1..=8).contains(&given.settings.1) {
+            came.set_refusal(13);
+        }
+    }),
+    (
+        "catalogue",
+        "a size limit of 8 taken as 7",
+        |given, came| {
+            if came.answered() && given.settings.1 == 8 {
+                let count = came.count();
+                *came.returned -= came
+                    .output
+                    .chunks(42)
+                    .take(count)
+                    .filter(|entry| entry[0] == 8)
+                    .count() as u64;
+            }
+        },
+    ),
+];

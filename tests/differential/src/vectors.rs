@@ -1,0 +1,258 @@
+//! The calls that the program `vectors` makes, and what it has to print, both from the other implementation alone. What the
+//! paper or a published example says of a call stands with it and is asserted.
+mod checks;
+mod drawings;
+mod edges;
+mod large;
+mod notation;
+mod published;
+#[cfg(test)]
+mod tests;
+
+use crate::answers::{self, Answer};
+use crate::catalogue::{Codes, ENTRY};
+use std::collections::BTreeSet;
+
+/// What every lent byte holds before a call.
+const LENT: u8 = 238;
+
+/// The program lends no more bytes.
+const MOST_LENT: usize = 16384;
+
+/// The program reads two pages of so many bytes. A page's last call fills it by an argument that it does not look at.
+const PAGE: usize = 65536;
+const PAGES: usize = 2;
+const LAST: &str = "end of the page, check_drawing:";
+
+/// A call of the library: its arguments, and how many bytes it is lent.
+enum Call<'a> {
+    CheckDrawing(&'a [u8]),
+    CheckSurvey(&'a [u8]),
+    CheckCode(&'a [u8]),
+    IsLeast(&'a [u8]),
+    Compare(&'a [u8], &'a [u8]),
+    Same(&'a [u8], &'a [u8]),
+    CodeDrawing(&'a [u8], usize),
+    Decode(&'a [u8], usize),
+    MatchDrawing(&'a [u8], &'a [u8], usize),
+    WriteCatalogue(&'a [u8], u16, u16, usize),
+    UsualCatalogue(&'a [u8], usize),
+}
+
+/// A call as the list has it.
+#[derive(Default)]
+struct Parts<'a> {
+    call: u16,
+    word: &'static str,
+    first: &'a [u8],
+    second: &'a [u8],
+    threshold: u16,
+    limit: u16,
+    lent: Option<usize>,
+}
+
+const FETCH: u16 = 7;
+
+impl<'a> Call<'a> {
+    fn parts(&self) -> Parts<'a> {
+        let one = |call, word, first| Parts {
+            call,
+            word,
+            first,
+            ..Parts::default()
+        };
+        let two = |call, word, first, second| Parts {
+            second,
+            ..one(call, word, first)
+        };
+        let lent = |parts, lent| Parts {
+            lent: Some(lent),
+            ..parts
+        };
+        match *self {
+            Call::CheckDrawing(drawing) => one(1, "check_drawing", drawing),
+            Call::CheckSurvey(survey) => one(2, "check_survey", survey),
+            Call::CheckCode(code) => one(3, "check_code", code),
+            Call::IsLeast(code) => one(4, "is_least", code),
+            Call::Compare(first, second) => two(5, "compare", first, second),
+            Call::Same(first, second) => two(6, "same", first, second),
+            Call::CodeDrawing(drawing, room) => lent(one(8, "code_drawing", drawing), room),
+            Call::Decode(code, room) => lent(one(9, "decode", code), room),
+            Call::MatchDrawing(pattern, drawing, room) => {
+                lent(two(10, "match_drawing", pattern, drawing), room)
+            }
+            Call::WriteCatalogue(survey, threshold, limit, room) => Parts {
+                threshold,
+                limit,
+                ..lent(one(11, "write_catalogue", survey), room)
+            },
+            Call::UsualCatalogue(survey, room) => lent(one(12, "usual_catalogue", survey), room),
+        }
+    }
+
+    fn answer(&self, codes: &mut Codes, lent: &[u8]) -> Answer {
+        match *self {
+            Call::CheckDrawing(drawing) => answers::check_drawing(drawing),
+            Call::CheckSurvey(survey) => answers::check_survey(survey),
+            Call::CheckCode(code) => answers::check_code(code),
+            Call::IsLeast(code) => answers::is_least(code),
+            Call::Compare(first, second) => answers::compare(first, second),
+            Call::Same(first, second) => answers::same(first, second),
+            Call::CodeDrawing(drawing, _) => answers::code(drawing, lent),
+            Call::Decode(code, _) => answers::decode(code, lent),
+            Call::MatchDrawing(pattern, drawing, _) => {
+                answers::match_drawing(pattern, drawing, lent)
+            }
+            Call::WriteCatalogue(survey, threshold, limit, _) => {
+                let entries = codes.of_survey(survey, threshold.into(), limit.into());
+                answers::catalogue(&entries, lent)
+            }
+            Call::UsualCatalogue(survey, _) => {
+                answers::catalogue(&codes.of_survey(survey, 2, 4), lent)
+            }
+        }
+    }
+}
+
+/// The bytes of a call: four parts with their lengths, of which the settings have eight.
+fn size(name: &str, parts: &Parts) -> usize {
+    4 * 2 + name.len() + 8 + parts.first.len() + parts.second.len()
+}
+
+/// The calls as bytes, and what is printed of them.
+#[derive(Default)]
+pub struct List {
+    calls: Vec<u8>,
+    text: String,
+    codes: Codes,
+    seen: BTreeSet<(&'static str, Seen)>,
+}
+
+/// What a call may answer: something in a word, or a refusal and, if it is not the only or the first one's, whose.
+#[derive(Clone, Copy, Debug, PartialEq, Eq, PartialOrd, Ord)]
+enum Seen {
+    Answer(&'static str),
+    Refusal(u8, &'static str),
+}
+
+impl Seen {
+    fn of(answer: &Answer) -> Self {
+        match answer.refused.number {
+            0 => Seen::Answer(answer.said),
+            number => Seen::Refusal(number, answer.said),
+        }
+    }
+}
+
+impl List {
+    pub fn calls(&self) -> &[u8] {
+        &self.calls
+    }
+
+    pub fn text(&self) -> &str {
+        &self.text
+    }
+
+    /// A length and that many bytes.
+    fn put_part(&mut self, bytes: &[u8]) {
+        let length = u16::try_from(bytes.len()).expect("a short part");
+        self.calls.extend(length.to_le_bytes());
+        self.calls.extend(bytes);
+    }
+
+    fn put_parts(&mut self, name: &str, parts: &Parts) {
+        let last = Call::CheckDrawing(&[]).parts();
+        let left = PAGE - self.calls.len() % PAGE - size(LAST, &last);
+        if left < size(name, parts) {
+            let second = &vec![0; left];
+            self.put_call(LAST, &Parts { second, ..last });
+            self.put_line(LAST, &answers::check_drawing(&[]));
+        }
+        self.put_call(name, parts);
+        assert!(self.calls.len() <= PAGES * PAGE, "the list is too long");
+    }
+
+    fn put_call(&mut self, name: &str, parts: &Parts) {
+        let lent = parts.lent.unwrap_or(0);
+        assert!(lent <= MOST_LENT, "{name} so many bytes are not lent");
+        self.put_part(name.as_bytes());
+        self.put_part(
+            &[parts.call, parts.threshold, parts.limit, lent as u16]
+                .map(u16::to_le_bytes)
+                .concat(),
+        );
+        self.put_part(parts.first);
+        self.put_part(parts.second);
+    }
+
+    fn put_line(&mut self, name: &str, answer: &Answer) {
+        let refused = answer.refused;
+        self.text += &format!(
+            "{name} {} {} {}\n",
+            refused.number, refused.at, answer.count
+        );
+    }
+
+    /// Lines as long as a catalogue's entry, of which the last is shorter and perhaps empty.
+    fn put_bytes(&mut self, bytes: &[u8]) {
+        for (i, byte) in bytes.iter().enumerate() {
+            self.text += &format!(" {byte}");
+            if (i + 1) % ENTRY == 0 {
+                self.text.push('\n');
+            }
+        }
+        self.text.push('\n');
+    }
+
+    /// Adds a call of which only a length is there.
+    fn put_cut(&mut self) {
+        self.calls.extend([1, 0]);
+        self.text += "malformed list\n";
+    }
+
+    /// Adds a call, and gives the answer that it has to have.
+    fn put(&mut self, name: &str, call: Call) -> Answer {
+        let parts = call.parts();
+        let name = format!("{name}, {}:", parts.word);
+        let answer = call.answer(&mut self.codes, &vec![LENT; parts.lent.unwrap_or(0)]);
+        self.seen.insert((parts.word, Seen::of(&answer)));
+        self.put_parts(&name, &parts);
+        self.put_line(&name, &answer);
+        if parts.lent.is_some() {
+            self.put_bytes(&answer.output);
+        }
+        answer
+    }
+
+    /// Adds the opening of a survey and three fetches from it.
+    fn put_fetches(&mut self, name: &str, survey: &[u8], numbers: [u16; 3]) {
+        let name = format!("{name}, reader:");
+        let parts = Parts {
+            call: FETCH,
+            first: survey,
+            second: &numbers.map(u16::to_le_bytes).concat(),
+            ..Parts::default()
+        };
+        self.put_parts(&name, &parts);
+        self.text += &name;
+        for d in numbers {
+            let (opened, fetched) = (answers::open(survey), answers::fetch(survey, d.into()));
+            self.seen.insert(("open", Seen::of(&opened)));
+            self.seen.insert(("fetch", Seen::of(&fetched)));
+            self.put_line(" opened", &opened);
+            self.put_line(" fetched", &fetched);
+            self.put_bytes(&fetched.output);
+        }
+    }
+}
+
+/// Every call, group by group.
+pub fn list() -> List {
+    let mut list = List::default();
+    drawings::put(&mut list);
+    edges::put(&mut list);
+    published::put(&mut list);
+    large::put(&mut list);
+    list.put_cut();
+    list
+}

@@ -113,6 +113,23 @@ static Bytes star(int leaves) {
     return bench::drawing_of(std::vector<int>(leaves + 1), cables);
 }
 
+// Each of the first a devices joined with each of the b others.
+static Bytes bipartite(int a, int b) {
+    std::vector<bench::Cable> cables;
+    for (int u = 0; u < a; u++)
+        for (int v = 0; v < b; v++) cables.push_back({u, a + v, 0});
+    return bench::drawing_of(std::vector<int>(a + b), cables);
+}
+
+// Seven devices, each joined with each but for one pair: as many cables as a drawing may have.
+static Bytes near_clique() {
+    std::vector<bench::Cable> cables;
+    for (int u = 0; u < 7; u++)
+        for (int v = u + 1; v < 7; v++)
+            if (u != 0 || v != 1) cables.push_back({u, v, 0});
+    return bench::drawing_of(std::vector<int>(7), cables);
+}
+
 static Bytes petersen() {
     std::vector<bench::Cable> cables;
     for (int v = 0; v < 5; v++) {
@@ -136,5 +153,8 @@ int main() {
     printf("\n| drawing of one kind | code | is_least | same |\n|---|---|---|---|\n");
     symmetric("star of 6 leaves", star(6));
     symmetric("star of 9 leaves", star(9));
+    symmetric("K(2,8)", bipartite(2, 8));
+    symmetric("K(4,5)", bipartite(4, 5));
+    symmetric("K7 less one cable", near_clique());
     symmetric("Petersen graph", petersen());
 }

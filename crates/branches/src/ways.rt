@@ -1,6 +1,6 @@
 // The ways on from a branch: the record that an extension stands for, and the branches that it leads to. A backward record
 // leads to one branch, a forward one to a branch for each free device that has its label: equal records all, so that a
-// search has to follow every one of them.
+// search has to follow every one of them. Of exchangeable devices the first stands for all.
 use crate::branch::Branch;
 use crate::extension::Extension;
 use records::drawing::Drawing;
@@ -9,9 +9,11 @@ use tables::table::CELLS;
 use tables::table::cable_kind;
 use tables::table::label;
 use tables::table::other_kind;
+use tables::twins::has_free_twin;
 ghost use mathlib.Core.Path.{_≡_};
 ghost use Prim.Native.Nat.{_<_, _≤_};
 ghost use Rattle.codes.specs.BranchBounds.{Bounds};
+ghost use Rattle.codes.specs.Twins.{Twins-noted};
 ghost use Rattle.tables.specs.Records.{as-rec};
 ghost use Rattle.branches.specs.Branches.{state-of};
 ghost use Rattle.branches.specs.Ways.{chord-with, edge-with, Next-way, Can-find, Can-follow, followed};
@@ -45,30 +47,45 @@ pub fn edge_record(branch: Branch, q: usize, l: u32, ki: u8) -> Record
     }
 }
 
-// The first device from `from` on that has no number and the label l at place q; ten if there is none.
-fn next_tie(table: &[u32; CELLS], branch: Branch, q: usize, l: u32, from: usize) -> usize
-    requires { ⌜ Bounds (state-of branch) × (q < branch .count) ⌝ }
+// The first device from `from` on that has no number and the label l at place q, and is not passed over; ten if there is none.
+fn next_tie(
+    table: &[u32; CELLS],
+    twins: &[u8; Drawing::MOST_DEVICES],
+    branch: Branch,
+    q: usize,
+    l: u32,
+    from: usize,
+) -> usize
+    requires { ⌜ Bounds (state-of branch) × (q < branch .count) × Twins-noted (now table) (now twins) ⌝ }
     ensures { λ r. ⌜ Next-way (now (table .entry)) (state-of branch) (Extension.Edge q l) from r ⌝ }
 {
     let device = branch.device(q);
     for w in from..Drawing::MOST_DEVICES {
         if !branch.used[w] {
             if label(table, device, w) == l {
-                return w;
+                if !has_free_twin(twins, &branch.used, w) {
+                    return w;
+                }
             }
         }
     }
     Drawing::MOST_DEVICES
 }
 
-// The first way from `from` on; ten if there is none.
-pub fn next_way(table: &[u32; CELLS], branch: Branch, step: Extension, from: usize) -> usize
-    requires { ⌜ Can-find (state-of branch) step ⌝ }
+// The first way from `from` on that is not passed over; ten if there is none.
+pub fn next_way(
+    table: &[u32; CELLS],
+    twins: &[u8; Drawing::MOST_DEVICES],
+    branch: Branch,
+    step: Extension,
+    from: usize,
+) -> usize
+    requires { ⌜ Can-find (state-of branch) step × Twins-noted (now table) (now twins) ⌝ }
     ensures { λ r. ⌜ Next-way (now (table .entry)) (state-of branch) step from r ⌝ }
 {
     match step {
         Extension::Chord(_, _) => { if from == 0 { 0 } else { Drawing::MOST_DEVICES } }
-        Extension::Edge(q, l) => next_tie(table, branch, q, l, from),
+        Extension::Edge(q, l) => next_tie(table, twins, branch, q, l, from),
         Extension::None => Drawing::MOST_DEVICES,
     }
 }

@@ -10,6 +10,7 @@ use Rattle.readings.specs.Readings.{held-records, as-reading, Sound}
 use Rattle.growth.specs.Places.{place-of, record-at}
 use Rattle.growth.specs.PlaceLaws.{Placed}
 use Rattle.growth.specs.PlacedRecords.{alone}
+use Rattle.growth.specs.Sizes.{alphabet-size, places-size}
 
 -- its records
 abbrev pub records-of : held.Reading → List Rec
@@ -33,11 +34,11 @@ labelled i j ki l = record { i = i; j = j; ki = ki; c = (l - 1) / 256; kj = (l -
 -- the record at a place of the survey's labels can be read off
 pub record Can-read (h : held.Reading) (kind : ℕ) (rank alphabet : List ℕ) (n place : ℕ) : Type 0 where
   pub holding : Holding h
-  pub labels : n ≤ 1280
+  pub labels : n ≤ alphabet-size
   pub placed : Placed (basis kind (records-of h)) rank alphabet n (record-at (basis kind (records-of h)) alphabet n place)
   pub place-is : place-of rank n (record-at (basis kind (records-of h)) alphabet n place) ≡ place
   pub byte : record-at (basis kind (records-of h)) alphabet n place .c < 256
-  pub below : place < 20480
+  pub below : place < places-size
   pub some : 0 < n
 
 -- by a program that is lent the kinds and the number of the devices held

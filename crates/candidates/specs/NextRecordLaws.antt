@@ -28,6 +28,7 @@ use Rattle.growth.specs.PlaceLaws.{
   row-below,
 }
 use Rattle.growth.specs.PlacedRecords.{alone}
+use Rattle.growth.specs.Sizes.{alphabet-size}
 use Rattle.candidates.specs.HeldCode.{records-of, basis, labelled, Can-read, Can-read-off, Read-off}
 use Rattle.candidates.specs.HeldCodeLaws.{basis-alone, basis-held}
 
@@ -63,7 +64,7 @@ module _ {h : held.Reading} {kind : ℕ} {rank alphabet : List ℕ} {n place : �
   pub row-most : place / n ≤ 15
   row-most = omega (arith, row-is, row-below (p .placed .position))
 
-  pub rank-below : place % n < 1280
+  pub rank-below : place % n < alphabet-size
   rank-below = omega (arith, mod-lt place (p .some), p .labels)
 
   pub label-some : 0 < getD alphabet (place % n) 0

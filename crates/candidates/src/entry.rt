@@ -6,15 +6,29 @@ ghost use Prim.Native.Nat.{_+_, _*_, _≤_};
 ghost use lib.ListN.{length};
 ghost use Rattle.growth.specs.Catalogue.{entry, entry-bytes};
 ghost use Rattle.codes.specs.Code.{recs-in};
-ghost use Rattle.growth.specs.Entries.{byte-or-zero};
+ghost use Rattle.growth.specs.Entries.{Writes-on, Pads};
 ghost use Rattle.laws.specs.PutRecords.{put-record};
 
-// Byte i of a code of `used` bytes; past them an entry has zeros.
-fn record_byte(code: &[u8; Code::BYTES], used: usize, i: usize) -> u8
-    requires { ⌜ used ≤ 100 ⌝ }
-    ensures { λ r. ⌜ r ≡ byte-or-zero (now (code .entry)) used i ⌝ }
+// Copies the records of a code of so many cables into an entry, behind its two numbers.
+fn copy_records(code: &[u8; Code::BYTES], cables: usize, output: &mut [u8])
+    requires { ⌜ (length (now code) ≡ 100) × (length (now output) ≡ 42) × (cables ≤ 8) ⌝ }
+    ensures { λ _. ⌜ Writes-on (now (code .entry)) cables 2 (2 + 5 * cables) (now (output .entry)) (now (output .exit)) ⌝ }
 {
-    if i < used { code[i] } else { 0 }
+    let end = Entry::RECORDS_AT + Code::RECORD_BYTES * cables;
+    for i in Entry::RECORDS_AT..end {
+        output[i] = code[i - Entry::RECORDS_AT];
+    }
+}
+
+// Past them an entry has zeros.
+fn pad_records(cables: usize, output: &mut [u8])
+    requires { ⌜ (length (now output) ≡ 42) × (cables ≤ 8) ⌝ }
+    ensures { λ _. ⌜ Pads cables (now (output .entry)) (now (output .exit)) ⌝ }
+{
+    let end = Entry::RECORDS_AT + Code::RECORD_BYTES * cables;
+    for i in end..Entry::BYTES {
+        output[i] = 0;
+    }
 }
 
 // Writes the entry of a code of so many cables that so many drawings contain. The bytes lent are the entry's own, so it
@@ -25,10 +39,8 @@ fn write_entry(code: &[u8; Code::BYTES], cables: usize, support: usize, output: 
 {
     output[0] = cables as u8;
     output[1] = support as u8;
-    let used = Code::RECORD_BYTES * cables;
-    for i in Entry::RECORDS_AT..Entry::BYTES {
-        output[i] = record_byte(code, used, i - Entry::RECORDS_AT);
-    }
+    copy_records(code, cables, output);
+    pad_records(cables, output);
 }
 
 // Writes the entry that begins with these two numbers as entry k of the output: its own part of the output is lent on, from its

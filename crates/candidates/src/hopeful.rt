@@ -4,9 +4,10 @@ use tables::record::Record;
 ghost use mathlib.Core.Path.{_≡_};
 ghost use mathlib.Core.Bool.{true};
 ghost use Prim.Native.Nat.{_<_, _≤_};
+ghost use Rattle.laws.specs.Decides.{Decides};
 ghost use Rattle.codes.specs.Code.{kinds-before};
 ghost use Rattle.tables.specs.Records.{as-rec};
-ghost use Rattle.walks.specs.Hopes.{record-of, Can-look, Finds, Hopeless-if};
+ghost use Rattle.walks.specs.Hopes.{record-of, Can-look, Overlooked-by, Overlooked-at, Hopeless-if};
 ghost use Rattle.walks.specs.Hopes.{with-labels};
 
 // Whether a cable with these labels comes before record t.
@@ -24,24 +25,37 @@ fn labels_before(code: &[u8; Code::BYTES], t: usize, ki: u8, c: u8, kj: u8) -> b
     kj < code[at + 4]
 }
 
+// Whether record t is a forward one from device a that such a cable from a would have come before.
+fn overlooks(code: &[u8; Code::BYTES], t: usize, a: u8, c: u8, kj: u8) -> bool
+    requires { ⌜ t < 20 ⌝ }
+    ensures { λ r. ⌜ Decides r (Overlooked-by (now (code .entry)) t a c kj) ⌝ }
+{
+    let at = Code::RECORD_BYTES * t;
+    if code[at] != a {
+        return false;
+    }
+    if code[at + 1] <= a {
+        return false;
+    }
+    labels_before(code, t, code[at + 2], c, kj)
+}
+
 // Whether a cable from device a would have come before one that the code takes from a.
 fn overlooked(code: &[u8; Code::BYTES], m: usize, a: u8, c: u8, kj: u8) -> bool
     requires { ⌜ m ≤ 20 ⌝ }
-    ensures { λ r. ⌜ Finds (now (code .entry)) m a c kj r ⌝ }
+    ensures { λ r. ⌜ Decides r (Overlooked-at (now (code .entry)) m a c kj) ⌝ }
 {
     for t in 1..m {
-        let at = Code::RECORD_BYTES * t;
-        if code[at] == a && a < code[at + 1] {
-            if labels_before(code, t, code[at + 2], c, kj) {
-                return true;
-            }
+        if overlooks(code, t, a, c, kj) {
+            return true;
         }
     }
     false
 }
 
 // Whether the code with a record more is certain not to be the least: that record's cable comes before the first record,
-// seen from one of its ends, or it was overlooked where the code took another cable from the same device.
+// seen from one of its ends, or it was overlooked where the code took another cable from the same device. Where it is not, the
+// code's own numbering sees nothing before the code.
 pub fn hopeless(code: &[u8; Code::BYTES], m: usize, next: Record) -> bool
     requires { ⌜ Can-look (now code) m (as-rec next) ⌝ }
     ensures { λ r. ⌜ Hopeless-if (now (code .entry)) m (as-rec next) r ⌝ }

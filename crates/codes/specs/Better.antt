@@ -16,7 +16,7 @@ use Rattle.codes.specs.ReadRows.{rows-invariant, rows-divided}
 use Rattle.codes.specs.Extension.{Local, next, Seen, extension-seen}
 use Rattle.codes.specs.Greedy.{fits-extension, None-before, Greedy}
 use Rattle.codes.specs.FirstRecord.{first-record, first-fits, fits-first}
-use Rattle.codes.specs.Branch.{Node, node-fits, node-next, came, node-first}
+use Rattle.codes.specs.Branch.{Node, node-fits, node-next, node-parent, node-first}
 
 module _ (labels : Rec → Rec → Bool) (d : Drawing) where
   -- a record local to f comes before e
@@ -66,7 +66,7 @@ module _ (labels : Rec → Rec → Bool) (d : Drawing) where
 
       rest : (g : List ℕ) → Node d (snoc (r ∷ rs) e) g → Better (snoc (r ∷ rs) e) ss g → ⊥
       rest g n b =
-          let c = came d r rs e g n in
+          let c = node-parent d r rs e g n in
           none (c .f) (c .node) (inr (c .local, subst (Better (snoc (r ∷ rs) e) ss) (sym (c .is)) b))
 
   -- FROM THE START: every cable each way round against the first record

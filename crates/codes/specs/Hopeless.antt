@@ -18,7 +18,7 @@ use Rattle.codes.specs.Extension.{Local, chord-at, edge-at}
 use Rattle.codes.specs.FirstRecord.{first-record, fits-first}
 use Rattle.codes.specs.FullCode.{coded-itself}
 use Rattle.codes.specs.LeastCode.{least-greedy}
-use Rattle.codes.specs.Branch.{Node, node-fits, Came, came}
+use Rattle.codes.specs.Branch.{Node, node-fits, Parent-node, node-parent}
 use Rattle.codes.specs.Better.{start-not-greedy}
 use Rattle.codes.specs.LabelLaws.{forward-same-ends}
 use Rattle.codes.specs.Overlooked.{Overlooks, overlooked}
@@ -42,9 +42,9 @@ last-cable d [] e g n =
       i-kind = ap (λ (x : Rec). x .ki) (c .record-is);
       j-kind = ap (λ (x : Rec). x .kj) (c .record-is);
     }
-last-cable d (r ∷ rs) e g n = go (came d r rs e g n)
+last-cable d (r ∷ rs) e g n = go (node-parent d r rs e g n)
   where
-    go : Came d (r ∷ rs) e g → Last-cable d e
+    go : Parent-node d (r ∷ rs) e g → Last-cable d e
     go c = at (c .local)
       where
         at : Local d (read-rows fresh (r ∷ rs)) (c .f) e → Last-cable d e

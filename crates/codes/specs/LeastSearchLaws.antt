@@ -41,7 +41,7 @@ use Rattle.codes.specs.LeastExtension.{Least-extension}
 use Rattle.codes.specs.FullCode.{least-unique}
 use Rattle.codes.specs.LeastCode.{Kept-rows, state-begun, state-step, state-next, state-least, first-extension}
 use Rattle.codes.specs.Decoded.{decoded-pattern}
-use Rattle.codes.specs.Branch.{Node, node-fits, node-next, came, node-first}
+use Rattle.codes.specs.Branch.{Node, node-fits, node-next, node-parent, node-first}
 use Rattle.codes.specs.LeastSearchLocals.{ways-has, ways-only, choice-is, locals-has, locals-only}
 use Rattle.codes.specs.LeastSearch.{
   Choice,
@@ -121,7 +121,7 @@ locals-list d p r rs fs k = record { only = only; all = all }
 
     all : (e : Rec) (g : List ℕ) → Node d (snoc (r ∷ rs) e) g → Mem (choice e g) (each fs (locals d x))
     all e g n =
-        let c = came d r rs e g n in
+        let c = node-parent d r rs e g n in
         each-has fs (locals d x) (k .all (c .f) (c .node))
         (subst (λ (y : List ℕ). Mem (choice e y) (locals d x (c .f))) (c .is) (locals-has d x (c .node .invariant) (c .f) e (c .local)))
 

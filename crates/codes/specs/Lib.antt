@@ -1,6 +1,7 @@
 -- Definitions.
 pub mod Code
 pub mod BranchState
+pub mod Twins
 pub mod LeastSearch
 -- Laws over them.
 pub mod CodeOrder
@@ -26,11 +27,16 @@ pub mod Searched
 pub mod Started
 pub mod Descending
 pub mod LabelLaws
+pub mod TwinLaws
+pub mod Automorphisms
 pub mod BranchBounds
 pub mod BranchLaws
 pub mod BranchLeast
 pub mod BranchSteps
+pub mod TwinBranches
 pub mod LeastSearchLocals
 pub mod LeastSearchLaws
 pub mod Overlooked
 pub mod Hopeless
+pub mod LaterRows
+pub mod OwnNumbering

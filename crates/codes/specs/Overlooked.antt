@@ -18,7 +18,7 @@ use Rattle.codes.specs.Reading.{Invariant}
 use Rattle.codes.specs.ReadRows.{step-from-test, rows-cons, rows-divided, rows-invariant}
 use Rattle.codes.specs.Extension.{Local, chord-at, edge-at, next}
 use Rattle.codes.specs.Greedy.{None-before, Greedy, Fits}
-use Rattle.codes.specs.Branch.{Node, node-fits, node-next, Came, came}
+use Rattle.codes.specs.Branch.{Node, node-fits, node-next, Parent-node, node-parent}
 use Rattle.codes.specs.LabelLaws.{forward-same-ends}
 
 -- THE RECORD s with the labels of another cable from its device i
@@ -59,7 +59,7 @@ earlier-node d r rs (s ∷ ss) g n =
   where
     go : Earlier-node d (r ∷ snoc rs s) g → Earlier-node d (r ∷ rs) g
     go t =
-        let c = came d r rs s (t .f) (t .node) in
+        let c = node-parent d r rs s (t .f) (t .node) in
         record {
           f = c .f;
           node = c .node;
@@ -67,7 +67,7 @@ earlier-node d r rs (s ∷ ss) g n =
         }
 
 -- each record of a greedy code has none before it
-greedy-at : (labels : Rec → Rec → Bool) (d : Drawing) (γ rs : List Rec) (s : Rec) (more : List Rec) → Greedy labels d γ (rs ++ s ∷ more)
+pub greedy-at : (labels : Rec → Rec → Bool) (d : Drawing) (γ rs : List Rec) (s : Rec) (more : List Rec) → Greedy labels d γ (rs ++ s ∷ more)
     → None-before labels d (γ ++ rs) s
 unfolding Greedy
 greedy-at labels d γ [] s more g = rw append-nil (g .0)
@@ -129,24 +129,24 @@ module _ (labels : Rec → Rec → Bool) (d : Drawing) (ten : devices d ≤ 10) 
   -- THE LAST CABLE was overlooked at s
   module _ (qs : List Rec) (e : Rec) (g : List ℕ) (n : Node d (r ∷ ps ++ s ∷ snoc qs e) g) (up : s .i < s .j) where
     -- the records before the last, and after s
-    last : Came d (r ∷ ps ++ s ∷ qs) e g
-    last = came d r (ps ++ s ∷ qs) e g (subst (λ (γ : List Rec). Node d (r ∷ γ) g) (sym (append-assoc ps (s ∷ qs) (e ∷ []))) n)
+    last : Parent-node d (r ∷ ps ++ s ∷ qs) e g
+    last = node-parent d r (ps ++ s ∷ qs) e g (subst (λ (γ : List Rec). Node d (r ∷ γ) g) (sym (append-assoc ps (s ∷ qs) (e ∷ []))) n)
 
     taken : Earlier-node d (r ∷ snoc ps s) (last .f)
     taken = earlier-node d r (snoc ps s) qs (last .f) (subst (λ (γ : List Rec). Node d (r ∷ γ) (last .f))
         (sym (append-assoc ps (s ∷ []) qs)) (last .node))
 
-    came-s : Came d (r ∷ ps) s (taken .f)
-    came-s = came d r ps s (taken .f) (taken .node)
+    parent-of-s : Parent-node d (r ∷ ps) s (taken .f)
+    parent-of-s = node-parent d r ps s (taken .f) (taken .node)
 
     -- so the device that s leads to is there
     there : s .j < length (last .f)
-    there = go (came-s .local) (came-s .is)
+    there = go (parent-of-s .local) (parent-of-s .is)
       where
-        go : (h : Local d (read-rows fresh (r ∷ ps)) (came-s .f) s) → next h ≡ taken .f → s .j < length (last .f)
+        go : (h : Local d (read-rows fresh (r ∷ ps)) (parent-of-s .f) s) → next h ≡ taken .f → s .j < length (last .f)
         go (chord-at b h y z) q = absurd (omega (arith, b .down))
         go (edge-at w o j k h y z) q =
-            omega (arith, ap length q, snoc-length (came-s .f) w, j, came-s .node .embedding .size, taken .begins .low)
+            omega (arith, ap length q, snoc-length (parent-of-s .f) w, j, parent-of-s .node .embedding .size, taken .begins .low)
 
     pub overlooked : Overlooks labels s e → Greedy labels d [] (r ∷ ps ++ s ∷ snoc qs e) → ⊥
     overlooked o greedy = go (last .local) (last .is) o

@@ -82,7 +82,7 @@ module _ (x : Reading) (v : Invariant x) (e : Rec) (o : Backward x (e .i) (e .j)
   back-i = omega (arith, v .top, o .is-end)
 
   -- the pair was not joined before
-  back-new : (k : ℕ) → Has (e .i) (e .j) k (x .cables) → ⊥
+  pub back-new : (k : ℕ) → Has (e .i) (e .j) k (x .cables) → ⊥
   back-new k h = go (v .used (e .j) k (has-eq (o .is-end) refl refl h)) (o .rising)
     where
       go : (e .j ≡ second (x .path)) ⊎ ((x .back ≡ 10 → ⊥) × (e .j ≤ x .back)) → (x .back ≡ 10) ⊎ (x .back < e .j) → ⊥

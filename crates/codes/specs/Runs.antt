@@ -38,7 +38,7 @@ use Rattle.codes.specs.Greedy.{Fits, fits-prefix}
 use Rattle.codes.specs.ReadRows.{rows-invariant}
 use Rattle.codes.specs.FullCode.{Coded, coded-fits, coded-length, coded-from-test, coded-to-test, fits-coded}
 use Rattle.codes.specs.FirstRecord.{first-record, First-cable, fits-first}
-use Rattle.codes.specs.Branch.{Node, node-fits, came}
+use Rattle.codes.specs.Branch.{Node, node-fits, node-parent}
 
 -- each record of ss is local to the numbering so far
 unfoldable pub Run : (d : Drawing) (γ : List Rec) (f : List ℕ) (ss : List Rec) → Type 0
@@ -69,7 +69,7 @@ fits-run d r rs (e ∷ ss) t = go (fits-run d r (snoc rs e) ss (rw append-assoc 
   where
     go : Begins-run d (r ∷ snoc rs e) ss → Begins-run d (r ∷ rs) (e ∷ ss)
     go b =
-        let c = came d r rs e (b .f) (b .node) in
+        let c = node-parent d r rs e (b .f) (b .node) in
         record { f = c .f; node = c .node; run = (c .local, subst (λ (g : List ℕ). Run d (snoc (r ∷ rs) e) g ss) (sym (c .is)) (b .run)) }
 
 module _ (labels : Rec → Rec → Bool) (o : Label-order labels) (d : Drawing) where

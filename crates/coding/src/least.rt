@@ -2,11 +2,12 @@
 // before it.
 use crate::answer::Verdict;
 use crate::check::check_code;
-use least_test::better::some_start_better;
+use least_test::starts::some_start_better;
 use records::code::Code;
 use records::drawing::Drawing;
 use records::refusal::Checked;
 use tables::table::labels_of_code;
+use tables::twins::twins_of;
 ghost use Rattle.coding.specs.LeastSays.{Least-says};
 
 // Whether a code is the least of the drawing that it describes.
@@ -17,8 +18,9 @@ pub fn is_least(code: &[u8]) -> Verdict
         return Verdict::Refused(r);
     }
     let table = labels_of_code(code);
+    let twins = twins_of(&table);
     let records = code.len() / Code::RECORD_BYTES;
-    if some_start_better(&table, code, records, Drawing::MOST_DEVICES) {
+    if some_start_better(&table, &twins, code, records, Drawing::MOST_DEVICES, true) {
         Verdict::No
     } else {
         Verdict::Yes

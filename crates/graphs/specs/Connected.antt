@@ -69,12 +69,12 @@ with-ends-taken c vs = go (member (c .a) vs) refl (member (c .b) vs) refl
     go false p true q = takes (against refl refl) (mem-from-test (c .b) vs q) (out p)
     go false p false q = rests (none (out p) (out q))
 
--- INVARIANTS: what each device taken up keeps
-abbrev Kept : List Cable → (List ℕ → Type 0) → Type 0
-Kept cs Q = (u v k : ℕ) (vs : List ℕ) → Has u v k cs → Mem u vs → (Mem v vs → ⊥) → Q vs → Q (v ∷ vs)
+-- INVARIANTS: what still holds when a neighbour of a device taken up is taken up
+abbrev Preserved-by-neighbours : List Cable → (List ℕ → Type 0) → Type 0
+Preserved-by-neighbours cs Q = (u v k : ℕ) (vs : List ℕ) → Has u v k cs → Mem u vs → (Mem v vs → ⊥) → Q vs → Q (v ∷ vs)
 
 module _ (Q : List ℕ → Type 0) where
-  spread-keeps : (cs : List Cable) → Kept cs Q → (vs : List ℕ) → Q vs → Q (spread cs vs)
+  spread-keeps : (cs : List Cable) → Preserved-by-neighbours cs Q → (vs : List ℕ) → Q vs → Q (spread cs vs)
   unfolding spread
   spread-keeps [] f vs q = q
   spread-keeps (c ∷ cs) f vs q =
@@ -84,7 +84,7 @@ module _ (Q : List ℕ → Type 0) where
       go ws (takes {u = u} {v = v} j m n) = f u v (c .kind) vs (Has.here j refl) m n q
       go ws (rests r) = q
 
-  reached-keeps : (cs : List Cable) → Kept cs Q → (n : ℕ) (vs : List ℕ) → Q vs → Q (reached n cs vs)
+  reached-keeps : (cs : List Cable) → Preserved-by-neighbours cs Q → (n : ℕ) (vs : List ℕ) → Q vs → Q (reached n cs vs)
   unfolding reached
   reached-keeps cs f zero vs q = q
   reached-keeps cs f (suc n) vs q = reached-keeps cs f n (spread cs vs) (spread-keeps cs f vs q)
@@ -160,7 +160,7 @@ module _ (d : Drawing) (ends : Ends-in-range d) (some : 0 < devices d) where
       walks v (Mem.here e) = rw (← e) stay
       walks v (Mem.there m) = elim m [ ]
 
-  explored-next : Kept (d .cables) (Explored d)
+  explored-next : Preserved-by-neighbours (d .cables) (Explored d)
   unfolding Different
   explored-next u v k vs h m n f =
       record { different = (n, f .different); start = Mem.there (f .start); in-range = in-range; walks = walks }

@@ -35,7 +35,9 @@ use Rattle.walks.specs.Choices.{List-kept}
 use Rattle.laws.specs.PartLaws.{part-none, part-snoc, part-split, part-has}
 use Rattle.candidates.specs.HeldCode.{records-of, basis, Can-read, Can-grow, Grows}
 use Rattle.candidates.specs.HeldCodeLaws.{records-length}
-use Rattle.walks.specs.Hopes.{Can-look}
+use Rattle.walks.specs.Hopes.{Can-look, Hopeless-if}
+use Rattle.walks.specs.HopeLaws.{grown-well}
+use Rattle.codes.specs.OwnNumbering.{Well-grown}
 use Rattle.growing.specs.PatternGrowth.{lists-same}
 use Rattle.growing.specs.GrowthOutcomes.{
   Candidate-held,
@@ -188,17 +190,28 @@ module _ {survey labels rank alphabet : List ℕ} {g : Settings} {h : held.Readi
             cell-is = cell-is ∙ ap cell-number (candidate .containing-is);
           })
 
+      -- it overlooks none, so the code grows well
+      well-next :
+          (e : Rec) → e ≡ record-at (basis kind (records-of h)) alphabet (g .labels) (q / (2 ^ 40))
+          → Hopeless-if (h .code .records) (h .code .count) e false → Well-grown (records-of r)
+      well-next e is look =
+          subst Well-grown (ap (λ (x : Rec). snoc γ x) is ∙ sym (t .records))
+          (grown-well (h .code .records) (h .code .count) e (a .greedy) (look .hopeful refl))
+
       pub walk-grows-on :
-          {cells₁ seen₁ list₁ out₁ : List ℕ} {written : ℕ} → On-the-way survey alphabet g kind
+          {cells₁ seen₁ list₁ out₁ : List ℕ} {written : ℕ} (e : Rec)
+          → e ≡ record-at (basis kind (records-of h)) alphabet (g .labels) (q / (2 ^ 40))
+          → Hopeless-if (h .code .records) (h .code .count) e false → On-the-way survey alphabet g kind
           (records-of h) list from top out count k cells₁ seen₁ list₁ out₁ written
           → Can-grow-pattern survey labels rank alphabet g r (q % (2 ^ 40)) cells₁ seen₁ list₁ top out₁ written
-      walk-grows-on w =
+      walk-grows-on e is look w =
           record {
             set-up = a .set-up;
             holding = t .holding;
             some = omega (arith, t .count);
             most = omega (arith, t .count, a .more);
             candidate = held-candidate;
+            well = well-next e is look;
             at-hand = record { blank = w .blank; list-size = w .kept .size; room = omega (arith, t .count, a .at-hand .room) };
             out-room = w .room;
           }

@@ -6,8 +6,10 @@ use Prim.Native.Nat.{ℕ, suc, _+_, _*_, _/_, _^_, _≤_, _<_}
 use lib.ListN.{length, drop}
 use Rattle.graphs.specs.Drawing.{Drawing, is-pattern}
 use Rattle.graphs.specs.Survey.{containing, support}
-use Rattle.codes.specs.Code.{Rec, fresh, rows-refusal, decoded, kinds-before, Least}
+use Rattle.codes.specs.Code.{Rec, fresh, rows-refusal, recs-in, decoded, kinds-before, Least}
 use Rattle.codes.specs.CodeOrder.{kinds-order}
+use Rattle.codes.specs.Greedy.{Greedy}
+use Rattle.codes.specs.OwnNumbering.{Well-grown}
 use Rattle.growth.specs.Catalogue.{entry, entry-bytes, all-bytes}
 use Rattle.growth.specs.Catalogues.{entry-for}
 use Rattle.growth.specs.Growth.{Listed-by}
@@ -17,6 +19,7 @@ use Rattle.growth.specs.CountingExtensions.{Counting, Grown, First-of}
 use Rattle.growth.specs.ListedBy.{Chosen-cells, place-in, records-at}
 use Rattle.growth.specs.Output.{Done, Ahead}
 use Rattle.growth.specs.Walking.{Gives, Ahead-of}
+use Rattle.growth.specs.Sizes.{places-size, candidates-size}
 use Rattle.readings.specs.declared.reading.Reading as held
 use Rattle.least_seen.specs.Accepting.{Accepted-front}
 use Rattle.growing.specs.declared.grow.Growth.{Growth}
@@ -43,12 +46,13 @@ pub record Set-up (survey labels rank alphabet : List ℕ) (g : Settings) : Type
 -- THE ARRAYS: blank cells, and the list of candidates with its part below `base` in use
 pub record At-hand (cells seen list : List ℕ) (base level : ℕ) : Type 0 where
   pub blank : Blank cells seen
-  pub list-size : length list ≡ 163840
-  pub room : base ≤ 20480 * level
+  pub list-size : length list ≡ candidates-size
+  pub room : base ≤ places-size * level
 
--- A CANDIDATE IS TAKEN UP: an accepted code of at most 8 records, and room for the entries before its own
+-- A CANDIDATE IS TAKEN UP: an accepted code of at most 8 records that grew well, and room for the entries before its own
 pub record Can-take-candidate (code : List ℕ) (m n cell : ℕ) (out : List ℕ) (count : ℕ) : Type 0 where
   pub front : Accepted-front code m n
+  pub well : Well-grown (recs-in m code)
   pub most : m ≤ 8
   pub few : cell / (2 ^ 32) ≤ 32
   pub out-room : 42 * count ≤ length out
@@ -88,6 +92,7 @@ pub record Can-grow-pattern (survey labels rank alphabet : List ℕ) (g : Settin
   pub some : 1 ≤ h .code .count
   pub most : h .code .count ≤ g .limit
   pub candidate : Candidate-held (drawings-of survey) (g .threshold) (records-of h) cell
+  pub well : Well-grown (records-of h)
   pub at-hand : At-hand cells seen list base (h .code .count)
   pub out-room : 42 * count ≤ length out
 
@@ -148,6 +153,7 @@ pub record Can-walk-candidates (survey labels rank alphabet : List ℕ) (g : Set
   pub set-up : Set-up survey labels rank alphabet g
   pub holding : Holding h
   pub more : h .code .count < g .limit
+  pub greedy : Greedy kinds-before (decoded (records-of h)) [] (records-of h)
   pub sets : ℕ → List Bool
   pub counting :
       Counting (place-of rank (g .labels)) (Fit kind (records-of h)) (drawings-of survey) (length (drawings-of survey)) sets

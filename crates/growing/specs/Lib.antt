@@ -3,3 +3,4 @@ pub mod GrowthOutcomes
 -- Laws over them.
 pub mod PatternGrowth
 pub mod CandidateWalk
+pub mod ListsHanded

@@ -11,9 +11,11 @@ use Rattle.laws.specs.Lists.{Mem, snoc, snoc-length, map-append}
 use Rattle.laws.specs.Selections.{Sent, map-from}
 use Rattle.graphs.specs.Drawing.{Drawing}
 use Rattle.graphs.specs.Map.{contains}
+use Rattle.graphs.specs.Patterns.{pattern-from-test}
 use Rattle.graphs.specs.Survey.{containing, count-true, support}
 use Rattle.codes.specs.Code.{Rec, Reading, fresh, rows-refusal, read-rows, recs-in, decoded, kinds-before, Least}
 use Rattle.codes.specs.CodeOrder.{kinds-order}
+use Rattle.codes.specs.LeastCode.{least-greedy}
 use Rattle.growth.specs.Catalogue.{Entry, entry, entry-bytes, all-bytes}
 use Rattle.growth.specs.Catalogues.{entry-for}
 use Rattle.growth.specs.Growth.{Listed, Listed-by, listed-leaf}
@@ -164,6 +166,7 @@ module _ {survey labels rank alphabet : List ℕ} {g : Settings} {h : held.Readi
               accepted = a .candidate .accepted;
               count = sym (ap (λ (x : Reading). length (x .kinds)) (sym (a .holding .is)) ∙ devices-is h wide begun);
             };
+        well = a .well;
         most = omega (arith, a .most, a .set-up .small);
         few =
             omega (
@@ -296,6 +299,8 @@ module _ {survey labels rank alphabet : List ℕ} {g : Settings} {h : held.Readi
                 set-up = a .set-up;
                 holding = a .holding;
                 more = less;
+                greedy =
+                    least-greedy kinds-before kinds-order (decoded γ) (pattern-from-test (decoded γ) (a .candidate .drawn)) γ (p .least);
                 sets = c .sets;
                 counting = fit-grown 0 γ (omega (arith, records-length h, a .some)) (c .counting);
                 chosen = chosen;

@@ -7,8 +7,10 @@ use candidates::entry::put_entry;
 use candidates::extension::grown;
 use candidates::extension::next_record;
 use candidates::hopeful::hopeless;
-use counting::count::count_extensions;
-use least_test::better::least_accepted;
+use counting::next::count_next;
+use least_test::grown::least_grown;
+use listing::level::ENDS;
+use listing::rows::KEPT;
 use marking::cells::ONE_MORE;
 use marking::cells::PLACES;
 use readings::reading::Reading;
@@ -17,7 +19,11 @@ use records::entry::Entry;
 use surveys::labels::TABLES;
 use surveys::ranks::ALPHABET;
 use surveys::ranks::LABELS;
+ghost use Prim.Native.Nat.{_+_};
 ghost use Rattle.codes.specs.Code.{recs-in};
+ghost use Rattle.walks.specs.LabelMarks.{drawings-of};
+ghost use Rattle.walks.specs.EmbeddingLists.{Lists-kept};
+ghost use Rattle.growing.specs.ListsHanded.{Lists-below, Lists-at};
 ghost use Rattle.growing.specs.GrowthOutcomes.{Can-take-candidate, Candidate-taken, Can-grow-pattern};
 ghost use Rattle.growing.specs.GrowthOutcomes.{Pattern-grown, Can-walk-candidates, Candidates-walked};
 ghost use Rattle.candidates.specs.HeldCode.{records-of};
@@ -55,7 +61,7 @@ fn take_up(
     requires { ⌜ Can-take-candidate (now code) cables devices cell (now output) count ⌝ }
     ensures { λ r. ⌜ Candidate-taken (recs-in cables (now (code .entry))) cell count (now (output .entry)) r (now (output .exit)) ⌝ }
 {
-    if !least_accepted(code, cables, devices) {
+    if !least_grown(code, cables, devices) {
         return Taken::Passed;
     }
     if output.len() - Entry::BYTES * count < Entry::BYTES {
@@ -66,7 +72,8 @@ fn take_up(
     Taken::Written
 }
 
-// Grows the pattern of the code held, which the drawings of a cell contain.
+// Grows the pattern of the code held, which the drawings of a cell contain. `listed` tells whether the embeddings of the code without
+// its last record are listed.
 pub fn grow(
     survey: &[u8],
     labels: &[u32; TABLES],
@@ -79,13 +86,18 @@ pub fn grow(
     seen: &mut [u16; PLACES],
     list: &mut [u64; CANDIDATES],
     base: usize,
+    listed: bool,
+    kept: &mut [u8; KEPT],
+    ends: &mut [usize; ENDS],
     output: &mut [u8],
     count: usize,
 ) -> Growth
     requires { ⌜ Can-grow-pattern (now survey) (now labels) (now rank) (now alphabet) settings held cell
-        (now cells) (now seen) (now list) base (now output) count ⌝ }
+        (now cells) (now seen) (now list) base (now output) count
+        × Lists-below (drawings-of (now survey)) (records-of held) (held .code .count) listed (now kept) (now ends) ⌝ }
     ensures { λ r. ⌜ Pattern-grown (now (survey .entry)) settings (records-of held) (now (cells .exit)) (now (seen .exit))
-        (now (list .entry)) base (now (list .exit)) (now (output .entry)) count r (now (output .exit)) ⌝ }
+        (now (list .entry)) base (now (list .exit)) (now (output .entry)) count r (now (output .exit))
+        × Lists-kept (held .code .count) (now (kept .entry)) (now (ends .entry)) (now (kept .exit)) (now (ends .exit)) ⌝ }
 {
     let code = held.code;
     let bytes = code.records;
@@ -99,8 +111,21 @@ pub fn grow(
         return Growth::To(count + 1);
     }
     let n = settings.labels;
-    let found = count_extensions(survey, labels, rank, n, &bytes, cables, cell, cells, seen);
-    let top = choose(cells, seen, found, settings.threshold, list, base);
+    let next = count_next(
+        survey,
+        labels,
+        rank,
+        n,
+        &bytes,
+        cables,
+        cell,
+        listed,
+        cells,
+        seen,
+        kept,
+        ends,
+    );
+    let top = choose(cells, seen, next.found, settings.threshold, list, base);
     walk(
         survey,
         labels,
@@ -114,12 +139,16 @@ pub fn grow(
         list,
         base,
         top,
+        next.listed,
+        kept,
+        ends,
         output,
         count + 1,
     )
 }
 
-// Grows the code held by each candidate of a part of the list in turn. A loop and no call for each: there may be 20,480.
+// Grows the code held by each candidate of a part of the list in turn. A loop and no call for each: there may be 20,480. `listed` tells
+// whether the embeddings of the code held are listed.
 pub fn walk(
     survey: &[u8],
     labels: &[u32; TABLES],
@@ -133,14 +162,19 @@ pub fn walk(
     list: &mut [u64; CANDIDATES],
     from: usize,
     top: usize,
+    listed: bool,
+    kept: &mut [u8; KEPT],
+    ends: &mut [usize; ENDS],
     output: &mut [u8],
     count: usize,
 ) -> Growth
     requires { ⌜ Can-walk-candidates (now survey) (now labels) (now rank) (now alphabet) settings held kind
-        (now cells) (now seen) (now list) from top (now output) count ⌝ }
+        (now cells) (now seen) (now list) from top (now output) count
+        × Lists-at (drawings-of (now survey)) (records-of held) (held .code .count) listed (now kept) (now ends) ⌝ }
     ensures { λ r. ⌜ Candidates-walked (now (survey .entry)) (now (alphabet .entry)) settings kind (records-of held)
         (now (cells .exit)) (now (seen .exit)) (now (list .entry)) from top (now (list .exit))
-        (now (output .entry)) count r (now (output .exit)) ⌝ }
+        (now (output .entry)) count r (now (output .exit))
+        × Lists-kept (held .code .count + 1) (now (kept .entry)) (now (ends .entry)) (now (kept .exit)) (now (ends .exit)) ⌝ }
 {
     let code = held.code;
     let bytes = code.records;
@@ -166,6 +200,9 @@ pub fn walk(
                 seen,
                 list,
                 top,
+                listed,
+                kept,
+                ends,
                 output,
                 written,
             ) else {

@@ -27,7 +27,7 @@ use Rattle.laws.specs.Rows.{Sized}
 use Rattle.codes.specs.Code.{recs-in, rec-bytes}
 use Rattle.codes.specs.CodeBytes.{rec-bytes-length, rec-bytes-in, recs-in-length}
 use Rattle.growth.specs.Catalogue.{Entry, entry, entry-bytes, all-bytes}
-use Rattle.growth.specs.Entries.{byte-or-zero, Bytes-written}
+use Rattle.growth.specs.Entries.{byte-or-zero, told, Bytes-written, Writes-on}
 use Rattle.laws.specs.PutRecords.{put-record}
 use Rattle.laws.specs.PutRecordLaws.{put-behind}
 
@@ -58,9 +58,6 @@ padded-at bs n i w h g l = go (decLt i n)
         ∙ byte-past bs n i (omega arith)
 
 -- ONE ENTRY: of a code's bytes
-abbrev pub told : List ℕ → (m s : ℕ) → List ℕ
-told bs m s = entry-bytes (entry s (recs-in m bs))
-
 module _ (bs : List ℕ) (m s : ℕ) (room : length bs ≡ 100) (few : m ≤ 8) where
   told-is : told bs m s ≡ m ∷ s ∷ (take (5 * m) bs ++ replicate (40 - 5 * m) 0)
   unfolding entry-bytes
@@ -109,6 +106,19 @@ module _ (bs : List ℕ) (m s : ℕ) (room : length bs ≡ 100) (few : m ≤ 8) 
   pub written-end : (i : ℕ) (out : List ℕ) → 42 ≤ i → Bytes-written (told bs m s) i out → out ≡ told bs m s
   written-end i out h w =
       sym (take-all i out (omega (arith, w .size))) ∙ w .front ∙ take-all i (told bs m s) (omega (arith, told-size))
+
+-- BYTE BY BYTE, whatever the support
+pub writes-none : (bs : List ℕ) (m i : ℕ) (out : List ℕ) → Writes-on bs m i i out out
+writes-none bs m i out = record { on = λ s w. w }
+
+module _ (bs : List ℕ) (m : ℕ) (room : length bs ≡ 100) (few : m ≤ 8) (from i : ℕ) (low : 2 ≤ i) (high : i < 42) (before out : List ℕ)
+    (w : Writes-on bs m from i before out) where
+  pub writes-record : i < 2 + 5 * m → (b : ℕ) → b ≡ getD bs (i - 2) 0 → Writes-on bs m from (i + 1) before (set out i b)
+  writes-record h b e =
+      record { on = λ s v. written-next bs m s room few i out b low high (w .on s v) (e ∙ byte-within bs (5 * m) (i - 2) (omega arith)) }
+
+  pub writes-zero : 2 + 5 * m ≤ i → Writes-on bs m from (i + 1) before (set out i 0)
+  writes-zero h = record { on = λ s v. written-next bs m s room few i out 0 low high (w .on s v) (byte-past bs (5 * m) (i - 2) (omega arith)) }
 
 -- ALL ENTRIES
 -- an entry of at most 8 records has its 42 bytes

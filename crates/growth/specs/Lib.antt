@@ -1,5 +1,6 @@
 -- Definitions.
 pub mod Catalogue
+pub mod Sizes
 pub mod Places
 pub mod Cells
 pub mod Mined

@@ -18,7 +18,7 @@ use Rattle.tables.specs.declared.«record».Order.the-variants.{After}
 use Rattle.branches.specs.declared.extension.Extension.{Extension}
 use Rattle.readings.specs.Readings.{held-records}
 use Rattle.branches.specs.Extensions.{Extension-found}
-use Rattle.branches.specs.Ways.{Way, Can-find, Can-follow, followed}
+use Rattle.branches.specs.Ways.{Way, Passed, Can-find, Can-follow, followed}
 use Rattle.least_seen.specs.BetterLaws.{found-finds, way-follows}
 use Rattle.least_code.specs.Searches.{
   rows-to,
@@ -134,10 +134,10 @@ module _ {bs table : List ℕ} {m t : ℕ} {b : State} {best : Code} {e : Extens
     unfolding longer
     so-rows = rw first-rows at so
 
-    pub ways-skip : (k : ℕ) → ((w : ℕ) → n ≤ w → w < k → Way table b e w → ⊥) → Ways-to now k
+    pub ways-skip : (k : ℕ) → ((w : ℕ) → n ≤ w → w < k → Way table b e w → Passed table b e w) → Ways-to now k
     unfolding longer
-    ways-skip k none =
-        rw first-rows (ways-passed (z .from) e (z .found) less (held-records first) (held-records now) n so-rows k none)
+    ways-skip k each =
+        rw first-rows (ways-passed (z .from) e (z .found) less (held-records first) (held-records now) n so-rows k each)
 
     now-rows : rows-to (t + 1) now ≡ longer
     unfolding longer

@@ -1,9 +1,9 @@
 -- A search below a branch, way by way: where the ways of the record found lead, and what they add up to. Rests on SearchLaws,
--- BranchSteps and Searched. Assumes nothing.
+-- BranchSteps, TwinBranches and Searched. Assumes nothing.
 use mathlib.Core.Path.{_≡_, refl, sym, ap, _∙_, subst}
 use mathlib.Core.List.{List}
 use mathlib.Core.Logic.{_⊎_, inl, inr}
-use Prim.Native.Nat.{ℕ, _+_, _≤_, _<_}
+use Prim.Native.Nat.{ℕ, zero, suc, _+_, _-_, _≤_, _<_}
 use native.Mathlib.Omega.{arith}
 use native.Mathlib.Decide.{decLt}
 use lib.ListN.{length}
@@ -15,16 +15,18 @@ use Rattle.codes.specs.CodeOrder.{kinds-order}
 use Rattle.codes.specs.Extension.{Local, next}
 use Rattle.codes.specs.Tight.{Tight}
 use Rattle.codes.specs.Branch.{tight-next}
-use Rattle.codes.specs.Searched.{Ties, Chosen, ties-none, ties-more, chosen-best, searched-step}
+use Rattle.codes.specs.Runs.{Least-run}
+use Rattle.codes.specs.Searched.{Full, Ties, Chosen, ties-none, ties-more, chosen-best, searched-step}
 use Rattle.codes.specs.BranchState.{Labels, State, numbering, Open-place, Edge-found, edge-of, with-edge, Represents}
 use Rattle.codes.specs.BranchLaws.{chord-found-local, chord-next, edge-local, edge-room}
 use Rattle.codes.specs.BranchLeast.{Tie, nothing-found, edge-ties}
 use Rattle.codes.specs.BranchSteps.{represents-chord, numbering-with-edge, represents-edge}
+use Rattle.codes.specs.TwinBranches.{twin-free, twin-label, twin-edge-run}
 use Rattle.branches.specs.declared.extension.Extension.{Extension}
 use Rattle.branches.specs.declared.extension.Extension.the-variants.{Chord, Edge, None}
 use Rattle.branches.specs.Extensions.{Extension-found}
 use Rattle.branches.specs.Ways as ways
-use Rattle.branches.specs.Ways.{Way, followed}
+use Rattle.branches.specs.Ways.{Way, Passed, followed}
 use Rattle.least_code.specs.Searches.{Search-from, Search-done, found-record, Led-below}
 use Rattle.least_code.specs.SearchLaws.{chord-record-is, edge-record-is, found-least, found-local}
 
@@ -117,6 +119,29 @@ module _ {bs t : List ℕ} {m : ℕ} {γ : List Rec} {b : State} {best : List Re
   step-led (Edge q l) c h = edge-led q l c h
   step-led None c h = absurd (nothing-found d ten ends t table γ b r c _ h)
 
+  -- A WAY THAT IS PASSED OVER has another below it that stands for it
+  record Stands-for (e : Extension) (w : ℕ) : Type 0 where
+    u : ℕ
+    below : u < w
+    way : Way t b e u
+    run : (δ rest : List Rec) → Least-run kinds-before kinds-order (drawing-in bs) δ (numbering (followed b e u)) rest
+        → Least-run kinds-before kinds-order (drawing-in bs) δ (numbering (followed b e w)) rest
+
+  stands-for : (e : Extension) → Extension-found t b e → (w : ℕ) → Way t b e w → Passed t b e w → Stands-for e w
+  stands-for (Chord q l) c w k x = absurd x
+  stands-for (Edge q l) c w k x =
+      let p = s .given .pattern .simple in
+      record {
+        u = x .u;
+        below = x .below;
+        way = record {
+          free = twin-free d p ten t table γ b r (k .free) x;
+          label = twin-label d p ten t table γ b r (k .free) x q (c .place) ∙ k .label;
+        };
+        run = λ δ rest. twin-edge-run d p ten t table γ b r (k .free) x kinds-before δ q (room q l c w k) kinds-order rest;
+      }
+  stands-for None c w k x = absurd x
+
   -- THE WAYS, one after another
   module _ (e : Extension) (found : Extension-found t b e) (less : length γ < m) where
     abbrev y : Rec
@@ -136,14 +161,31 @@ module _ {bs t : List ℕ} {m : ℕ} {γ : List Rec} {b : State} {best : List Re
         (λ g z. omega (arith, z .below))
 
     module _ (first now : List Rec) (n : ℕ) (so : Ways-searched first now n) where
-      -- no way from n to k
-      pub ways-passed : (k : ℕ) → ((w : ℕ) → n ≤ w → w < k → Way t b e w → ⊥) → Ways-searched first now k
-      ways-passed k none =
-          ties-fewer d (snoc γ y) first now (Led-below t b e n) (Led-below t b e k) so (λ g z. go z (decLt (z .w) n))
+      -- n is no way, or is passed over: its twin was searched
+      way-passed : (Way t b e n → Passed t b e n) → Ways-searched first now (suc n)
+      way-passed here =
+          record { best = so .best; at-most = so .at-most; full = λ g z. full-at z (decLt (z .w) n); least = λ g z. least-at z (decLt (z .w) n) }
         where
-          go : {g : List ℕ} (z : Led-below t b e k g) → Dec (z .w < n) → Led-below t b e n g
-          go z (yes h) = record { w = z .w; below = h; way = z .way; is = z .is }
-          go z (no h) = absurd (none (z .w) (omega arith) (z .below) (z .way))
+          last : {g : List ℕ} (z : Led-below t b e (suc n) g) → (z .w < n → ⊥) → z .w ≡ n
+          last z h = omega (arith, z .below)
+
+          twin : {g : List ℕ} (z : Led-below t b e (suc n) g) → (z .w < n → ⊥) → Stands-for e n
+          twin z h = let k : Way t b e n = rw (← last z h) (z .way) in stands-for e found n k (here k)
+
+          led : (x : Stands-for e n) → Led-below t b e n (numbering (followed b e (x .u)))
+          led x = record { w = x .u; below = x .below; way = x .way; is = refl }
+
+          full-at : {g : List ℕ} (z : Led-below t b e (suc n) g) → Dec (z .w < n) → Full kinds-before kinds-order (drawing-in bs) now
+          full-at {g} z (yes h) = so .full g (record { w = z .w; below = h; way = z .way; is = z .is })
+          full-at z (no h) = let x = twin z h in so .full _ (led x)
+
+          least-at :
+              {g : List ℕ} (z : Led-below t b e (suc n) g) → Dec (z .w < n)
+              → Least-run kinds-before kinds-order (drawing-in bs) (snoc γ (found-record (drawing-in bs) b e)) g (so .best .rest)
+          least-at {g} z (yes h) = so .least g (record { w = z .w; below = h; way = z .way; is = z .is })
+          least-at z (no h) =
+              let x = twin z h in
+              rw (z .is, last z h) (x .run (snoc γ y) (so .best .rest) (so .least _ (led x)))
 
       module _ (way : Way t b e n) where
         pub way-search : Search-from bs t m (snoc γ (found-record (drawing-in bs) b e)) (followed b e n) now
@@ -172,6 +214,24 @@ module _ {bs t : List ℕ} {m : ℕ} {γ : List Rec} {b : State} {best : List Re
             go v (no h) =
                 let q : v .w ≡ n = omega (arith, v .below) in
                 inr (v .is ∙ ap (λ (w : ℕ). numbering (followed b e w)) q)
+
+    -- so are all from n to k
+    pub ways-passed :
+        (first now : List Rec) (n : ℕ) → Ways-searched first now n → (k : ℕ) → ((w : ℕ) → n ≤ w → w < k → Way t b e w → Passed t b e w)
+        → Ways-searched first now k
+    ways-passed first now n so k each = go (decLt k n)
+      where
+        on : (m : ℕ) → m + n ≤ k → Ways-searched first now (m + n)
+        on zero h = let q : n ≡ zero + n = omega arith in subst (Ways-searched first now) q so
+        on (suc m) h =
+            let q : suc (m + n) ≡ suc m + n = omega arith in
+            subst (Ways-searched first now) q (way-passed first now (m + n) (on m (omega arith)) (each (m + n) (omega arith) (omega arith)))
+
+        go : Dec (k < n) → Ways-searched first now k
+        go (yes h) =
+            ties-fewer d (snoc γ y) first now (Led-below t b e n) (Led-below t b e k) so
+            (λ g z. record { w = z .w; below = omega (arith, z .below); way = z .way; is = z .is })
+        go (no h) = let q : k - n + n ≡ k = omega arith in subst (Ways-searched first now) q (on (k - n) (omega arith))
 
     pub ways-done :
         (first after : List Rec) → Chosen kinds-before kinds-order (drawing-in bs) γ (found-record (drawing-in bs) b e) best first

@@ -18,11 +18,13 @@ use tables::table::cable_kind;
 use tables::table::label;
 use tables::table::labels_of_drawing;
 use tables::table::other_kind;
+use tables::twins::twins_of;
 ghost use mathlib.Core.Path.{_≡_};
 ghost use Prim.Native.Nat.{_≤_, _<_};
 ghost use lib.ListN.{getD};
 ghost use Rattle.graphs.specs.Drawing.{devices, kind, drawing-in, drawing-refusal};
 ghost use Rattle.codes.specs.Code.{Least};
+ghost use Rattle.codes.specs.Twins.{Twins-noted};
 ghost use Rattle.tables.specs.Records.{as-rec};
 ghost use Rattle.readings.specs.Readings.{held-records};
 ghost use Rattle.branches.specs.Branches.{state-of};
@@ -85,16 +87,19 @@ fn chosen(best: Code, t: usize, next: Record, order: Order) -> Code
 }
 
 // All codes that begin with the t records of a branch, against the best so far. Each call lists one cable more, so that the
-// number of unlisted cables falls. Every way of the next record is followed: any of them may lead to the least code.
+// number of unlisted cables falls. Every way of the next record is followed, since any of them may lead to the least code; but
+// of exchangeable devices the first stands for all.
 fn search_below(
     drawing: &[u8],
     table: &[u32; CELLS],
+    twins: &[u8; Drawing::MOST_DEVICES],
     m: usize,
     t: usize,
     branch: Branch,
     best: Code,
 ) -> Code
-    requires { ⌜ Search-from (now drawing) (now table) m (rows-to t best) (state-of branch) (held-records best) ⌝ }
+    requires { ⌜ Search-from (now drawing) (now table) m (rows-to t best) (state-of branch) (held-records best)
+        × Twins-noted (now table) (now twins) ⌝ }
     ensures { λ r. ⌜ Search-done (now (drawing .entry)) (rows-to t best) (state-of branch) (held-records best) (held-records r) ⌝ }
 {
     if t == m {
@@ -107,18 +112,34 @@ fn search_below(
         return best;
     }
     let mut least = chosen(best, t, next, order);
-    let mut way = next_way(table, branch, found, 0);
+    let mut way = next_way(table, twins, branch, found, 0);
     while way < Drawing::MOST_DEVICES {
-        least = search_below(drawing, table, m, t + 1, follow(branch, found, way), least);
-        way = next_way(table, branch, found, way + 1);
+        least = search_below(
+            drawing,
+            table,
+            twins,
+            m,
+            t + 1,
+            follow(branch, found, way),
+            least,
+        );
+        way = next_way(table, twins, branch, found, way + 1);
     }
     least
 }
 
 // All codes that begin with a cable from its end a to its end b, against the best so far. Any cable can begin a code, so a
 // first record after the best's says that none of them is less.
-fn start(drawing: &[u8], table: &[u32; CELLS], m: usize, cable: Cable, best: Code) -> Code
-    requires { ⌜ Start-from (now drawing) (now table) m (cable .a) (cable .b) (cable .kind) (held-records best) ⌝ }
+fn start(
+    drawing: &[u8],
+    table: &[u32; CELLS],
+    twins: &[u8; Drawing::MOST_DEVICES],
+    m: usize,
+    cable: Cable,
+    best: Code,
+) -> Code
+    requires { ⌜ Start-from (now drawing) (now table) m (cable .a) (cable .b) (cable .kind) (held-records best)
+        × Twins-noted (now table) (now twins) ⌝ }
     ensures { λ r. ⌜ Start-done (drawing-in (now (drawing .entry))) (cable .a) (cable .b) (cable .kind) (held-records best) (held-records r) ⌝ }
 {
     let u = cable.a;
@@ -138,6 +159,7 @@ fn start(drawing: &[u8], table: &[u32; CELLS], m: usize, cable: Cable, best: Cod
     search_below(
         drawing,
         table,
+        twins,
         m,
         1,
         Branch::first(u, w),
@@ -151,6 +173,7 @@ pub fn least_code(drawing: &[u8], m: usize) -> Code
     ensures { λ r. ⌜ Least (drawing-in (now (drawing .entry))) (held-records r) ⌝ }
 {
     let table = labels_of_drawing(drawing);
+    let twins = twins_of(&table);
     let mut best = Code::new();
     for c in 0..m {
         let cable = Cable::at(drawing, c);
@@ -159,8 +182,8 @@ pub fn least_code(drawing: &[u8], m: usize) -> Code
             b: cable.a,
             kind: cable.kind,
         };
-        best = start(drawing, &table, m, cable, best);
-        best = start(drawing, &table, m, turned, best);
+        best = start(drawing, &table, &twins, m, cable, best);
+        best = start(drawing, &table, &twins, m, turned, best);
     }
     best
 }

@@ -12,7 +12,9 @@ use lib.ListN.{length, getD, set, take, drop}
 use lib.Seq.{set-set, set-getD}
 use Rattle.laws.specs.Lists.{snoc}
 use Rattle.laws.specs.Rows.{row}
+use Rattle.graphs.specs.Drawing.{Drawing}
 use Rattle.graphs.specs.Cables.{has-flip}
+use Rattle.graphs.specs.Graph.{Simple}
 use Rattle.codes.specs.Code.{Rec, fresh, rec-in, code-records, kinds-before, rows-refusal, decoded}
 use Rattle.codes.specs.Better.{Better}
 use Rattle.codes.specs.BranchState.{
@@ -28,12 +30,14 @@ use Rattle.codes.specs.BranchState.{
   with-edge,
   Represents,
 }
+use Rattle.codes.specs.Twins.{Free-twin}
 use Rattle.codes.specs.BranchBounds.{Bounds}
 use Rattle.codes.specs.Descending.{Path-place}
 use Rattle.codes.specs.LabelLaws.{label-cable}
+use Rattle.codes.specs.TwinBranches.{twin-label, twin-edge-better}
 use Rattle.tables.specs.declared.«record».Order.the-variants.{Before, Equal, After}
 use Rattle.tables.specs.RecordLaws.{record-read}
-use Rattle.tables.specs.CodeRows.{record-accepted, records-through, records-on}
+use Rattle.tables.specs.CodeRows.{code-simple, record-accepted, records-through, records-on}
 use Rattle.least_seen.specs.Betters.{Better-below}
 use Rattle.least_seen.specs.BetterLaws.{Sees}
 use Rattle.least_seen.specs.TestFollowLaws.{sees, follows-bounds}
@@ -46,6 +50,7 @@ use Rattle.least_seen.specs.Accepting.{
   Lower,
   Chord-told,
   Free-label,
+  Counted-label,
   Before-edge,
   wanted-label,
   Test-goes-on,
@@ -130,6 +135,11 @@ freed xs ys zs w e same free =
 -- a record's label is none of a missing cable
 pub wanted-label-some : (bs : List ℕ) (k : ℕ) {l : ℕ} → l ≡ wanted-label bs k → 0 < l
 wanted-label-some bs k e = omega arith
+
+-- a label that counts is that of the device itself
+pub counted-free : {t : List ℕ} {used : List Bool} {u w l : ℕ} → Counted-label t used u w l → 0 < l → Free-label t used u w l
+counted-free (inl f) h = f
+counted-free (inr x) h = absurd (omega (arith, x .0))
 
 -- of the device w: no lower label, and no way to it that leads to something better
 pub record Tried-way (t bs : List ℕ) (k : ℕ) (b : State) (q w : ℕ) : Type 0 where
@@ -348,6 +358,37 @@ module _ {t bs : List ℕ} {m n k : ℕ} {b : State} (G : Test-goes-on t bs m n 
               pub tried-way : (Better-below bs (k + 1) (edged b q w) → ⊥) → Tried-way t bs k b q w
               tried-way none =
                   record { not-lower = λ u x. omega (arith, x .1, label-own); no-way = λ u x. none }
+
+          -- A TWIN below w that was tried stands for it
+          pub twin-way : (w : ℕ) → w < n → Free-twin t (b .used) w → ((u : ℕ) → u < w → Tried-way t bs k b q u) → Tried-way t bs k b q w
+          unfolding e
+          twin-way w h x tried =
+              record {
+                not-lower = λ f z. p .not-lower (x .free) (rw (same f) z);
+                no-way = λ f own z. p .no-way (x .free) (same f ∙ own) (stands f own z);
+              }
+            where
+              p : Tried-way t bs k b q (x .u)
+              p = tried (x .u) (x .below)
+
+              d : Drawing
+              d = decoded (code-records bs)
+
+              simple : Simple d
+              simple = code-simple bs (G .counted .tabled .accepted)
+
+              same : getD (b .used) w true ≡ false → edge-label t b q (x .u) ≡ edge-label t b q w
+              same f = twin-label d simple (v .ten) t (v .labels) (take k (code-records bs)) b (v .branch) (free w h f) x q low
+
+              stands :
+                  getD (b .used) w true ≡ false → edge-label t b q w ≡ wanted-label bs k → Better-below bs (k + 1) (edged b q w)
+                  → Better-below bs (k + 1) (edged b q (x .u))
+              stands f own z =
+                  let room = front-room v e ss ok rises q low at-i byte w (free w h f) own in
+                  subst (Better-below bs (k + 1)) (edged-is b q (x .u))
+                  (twin-edge-better d simple (v .ten) t (v .labels) (take k (code-records bs)) b (v .branch) (free w h f) x kinds-before
+                  (take (k + 1) (code-records bs)) q room (drop (k + 1) (code-records bs))
+                  (subst (Better-below bs (k + 1)) (sym (edged-is b q w)) z))
 
           -- ALL DEVICES TRIED
           pub edge-way-none :

@@ -10,6 +10,7 @@ use Rattle.laws.specs.Rows.{row}
 use Rattle.graphs.specs.Drawing.{devices}
 use Rattle.codes.specs.Code.{fresh, rec-in, recs-in, code-records, rows-refusal, read-rows, decoded}
 use Rattle.codes.specs.BranchState.{label-at, label-of, State}
+use Rattle.codes.specs.Twins.{Free-twin}
 use Rattle.tables.specs.declared.«record».Order.{Order}
 use Rattle.tables.specs.declared.«record».Order.the-variants.{Before, Equal, After}
 use Rattle.least_seen.specs.Betters.{Tabled, Follows}
@@ -72,6 +73,10 @@ Chord-told t numbers path count low q wanted After =
 pub record Free-label (t : List ℕ) (used : List Bool) (u w l : ℕ) : Type 0 where
   pub free : getD used w true ≡ false → l ≡ label-at t u w
   pub taken : 0 < l → getD used w true ≡ false
+
+-- the same, or 0 where a twin below w has no number: what w leads to, that one does
+abbrev pub Counted-label : (t : List ℕ) (used : List Bool) (u w l : ℕ) → Type 0
+Counted-label t used u w l = Free-label t used u w l ⊎ ((l ≡ 0) × Free-twin t used w)
 
 -- a cable from u to a device below n that has no number
 pub record Edge-from (t : List ℕ) (used : List Bool) (n u : ℕ) : Type 0 where

@@ -6,6 +6,7 @@ use tables::record::Order;
 use tables::table::CELLS;
 use tables::table::label;
 use tables::table::label_of;
+use tables::twins::has_free_twin;
 ghost use mathlib.Core.Path.{_≡_};
 ghost use Prim.Native.Nat.{_+_, _*_, _≤_, _<_};
 ghost use lib.ListN.{length, getD};
@@ -13,7 +14,8 @@ ghost use Rattle.laws.specs.Decides.{Decides};
 ghost use Rattle.laws.specs.Rows.{row};
 ghost use Rattle.codes.specs.Code.{rec-in};
 ghost use Rattle.codes.specs.Descending.{Path-place};
-ghost use Rattle.least_seen.specs.Accepting.{Places, Marks-numbered, Chord-below, Free-label, Lower};
+ghost use Rattle.codes.specs.Twins.{Twins-noted};
+ghost use Rattle.least_seen.specs.Accepting.{Places, Marks-numbered, Chord-below, Free-label, Counted-label, Lower};
 ghost use Rattle.least_seen.specs.Accepting.{Edge-from, Edge-above, Chord-told, Before-edge};
 ghost use Rattle.least_seen.specs.Accepting.{wanted-label};
 ghost use Rattle.least_seen.specs.Accepting.{device-placed};
@@ -90,6 +92,26 @@ pub fn free_label(
         return 0;
     }
     label(table, u, w)
+}
+
+// The same, but 0 too if a twin below w has no number: of exchangeable devices without one the first counts.
+pub fn counted_label(
+    table: &[u32; CELLS],
+    twins: &[u8; Drawing::MOST_DEVICES],
+    used: &[bool; Drawing::MOST_DEVICES],
+    u: usize,
+    w: usize,
+) -> u32
+    requires { ⌜ (u < 10) × (w < 10) × (length (now used) ≡ 10) × Twins-noted (now table) (now twins) ⌝ }
+    ensures { λ l. ⌜ Counted-label (now (table .entry)) (now (used .entry)) u w l ⌝ }
+{
+    let l = free_label(table, used, u, w);
+    if l != 0 {
+        if has_free_twin(twins, used, w) {
+            return 0;
+        }
+    }
+    l
 }
 
 // Whether device u has a cable to a device that has no number.

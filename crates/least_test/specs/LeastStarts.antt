@@ -13,9 +13,9 @@ use Rattle.laws.specs.Rows.{row}
 use Rattle.graphs.specs.Drawing.{Cable, Drawing, devices, kind}
 use Rattle.graphs.specs.Cables.{Joins, along, against, Has, has-flip}
 use Rattle.graphs.specs.Graph.{Simple, Pattern}
-use Rattle.codes.specs.Code.{Rec, rec-in, cable-of, kinds-before, rec-before, decoded, rows-good, code-refusal, Least}
+use Rattle.codes.specs.Code.{Rec, fresh, rows-refusal, rec-in, cable-of, kinds-before, rec-before, decoded, rows-good, code-refusal, Least}
 use Rattle.codes.specs.CodeOrder.{rec-eq, rec-before-strict, kinds-order}
-use Rattle.codes.specs.ReadRows.{good-from-test}
+use Rattle.codes.specs.ReadRows.{begun-from-test, rows-cons, good-from-test}
 use Rattle.codes.specs.Greedy.{Greedy}
 use Rattle.codes.specs.FirstRecord.{first-record}
 use Rattle.codes.specs.Better.{Better, start-not-greedy, branch-not-greedy, start-greedy}
@@ -23,12 +23,10 @@ use Rattle.codes.specs.LeastCode.{least-greedy, greedy-least-itself}
 use Rattle.codes.specs.CodeBytes.{accepted-code}
 use Rattle.codes.specs.BranchState.{first-state, Represents}
 use Rattle.codes.specs.BranchSteps.{represents-first}
-use Rattle.tables.specs.declared.«record».Order.the-variants.{Before, Equal, After}
 use Rattle.codes.specs.Code.{code-records}
-use Rattle.tables.specs.Records.{order-of}
-use Rattle.tables.specs.RecordLaws.{order-before, order-equal, order-after}
 use Rattle.tables.specs.CodeRows.{records-through, records-on, code-ten, code-simple}
 use Rattle.tables.specs.CodeCables.{code-cables, record-cable, record-i-kind, record-j-kind}
+use Rattle.least_test.specs.LabelNumbers.{Numbers-labels, lower-number, same-number}
 use Rattle.least_seen.specs.Betters.{
   Tabled,
   Follows,
@@ -121,15 +119,24 @@ module _ {t bs : List ℕ} (T : Tabled t bs) {e : Rec} (s : Seen-cable (decoded 
       subst (λ (rs : List Rec). Start-better (decoded (code-records bs)) rs (e .i) (e .j) (e .c))
       (records-on bs 0 some (rec-in (row 5 0 bs)) refl) m
 
-  pub start-before : order-of (begins e) (rec-in (row 5 0 bs)) ≡ Before → Begins-better bs (e .i) (e .j) (e .c)
+  pub start-before : rec-before (begins e) (rec-in (row 5 0 bs)) ≡ true → Begins-better bs (e .i) (e .j) (e .c)
   start-before o =
       to (first-before (decoded (code-records bs)) _ _ (e .i) (e .j) (e .c)
-      (rw (← begins-is (decoded (code-records bs)) e s) (order-before (begins e) _ o)))
+      (rw (← begins-is (decoded (code-records bs)) e s) o))
 
-  pub start-after : order-of (begins e) (rec-in (row 5 0 bs)) ≡ After → Begins-better bs (e .i) (e .j) (e .c) → ⊥
+  pub start-after : rec-before (rec-in (row 5 0 bs)) (begins e) ≡ true → Begins-better bs (e .i) (e .j) (e .c) → ⊥
   start-after o m =
       first-after (decoded (code-records bs)) _ _ (e .i) (e .j) (e .c)
-      (rw (← begins-is (decoded (code-records bs)) e s) (order-after (begins e) _ o)) (from m)
+      (rw (← begins-is (decoded (code-records bs)) e s) o) (from m)
+
+  -- the first record goes from 0 to 1
+  pub first-ends : (rec-in (row 5 0 bs) .i ≡ 0) × (rec-in (row 5 0 bs) .j ≡ 1)
+  first-ends =
+      begun-from-test (rec-in (row 5 0 bs))
+      (rows-cons fresh (rec-in (row 5 0 bs)) (drop 1 (code-records bs))
+      (subst (λ (rs : List Rec). rows-refusal fresh rs ≡ 0) (records-on bs 0 some (rec-in (row 5 0 bs)) refl)
+      (good-from-test (code-records bs) (accepted-code bs (T .accepted) .good) .accepted))
+      .step)
 
   pub seen-low : (e .i < 10) × (e .j < 10)
   seen-low =
@@ -137,9 +144,9 @@ module _ {t bs : List ℕ} (T : Tabled t bs) {e : Rec} (s : Seen-cable (decoded 
       let ten = code-ten bs (T .accepted) in
       (omega (arith, ends (e .i) (e .j) (e .c) (s .has)), omega (arith, ends (e .j) (e .i) (e .c) (has-flip (s .has))))
 
-  module _ (o : order-of (begins e) (rec-in (row 5 0 bs)) ≡ Equal) where
+  module _ (o : begins e ≡ rec-in (row 5 0 bs)) where
     first-is : first-record (decoded (code-records bs)) (e .i) (e .j) (e .c) ≡ rec-in (row 5 0 bs)
-    first-is = sym (begins-is (decoded (code-records bs)) e s) ∙ order-equal (begins e) _ o
+    first-is = sym (begins-is (decoded (code-records bs)) e s) ∙ o
 
     through : take 1 (code-records bs) ≡ rec-in (row 5 0 bs) ∷ []
     through = records-through bs 0 some (rec-in (row 5 0 bs)) refl
@@ -164,6 +171,33 @@ module _ {t bs : List ℕ} (T : Tabled t bs) {e : Rec} (s : Seen-cable (decoded 
     start-asks m =
         subst (λ (γ : List Rec). Better kinds-before (decoded (code-records bs)) γ (drop 1 (code-records bs)) (e .i ∷ e .j ∷ [])) (sym through)
         (first-from (decoded (code-records bs)) _ _ (e .i) (e .j) (e .c) first-is (from m))
+
+-- BY NUMBER: the labels of a start and of the code's first record as one number each
+module _ {t bs : List ℕ} (T : Tabled t bs) {e : Rec} (s : Seen-cable (decoded (code-records bs)) e) {a b : ℕ} (p : Numbers-labels e a)
+    (q : Numbers-labels (rec-in (row 5 0 bs)) b) where
+  number : Numbers-labels (begins e) a
+  number = record { is = p .is; i-byte = p .i-byte; cable-byte = p .cable-byte; j-byte = p .j-byte }
+
+  ends-are : (rec-in (row 5 0 bs) .i ≡ 0) × (rec-in (row 5 0 bs) .j ≡ 1)
+  ends-are = first-ends T s
+
+  pub lower-start : a < b → Begins-better bs (e .i) (e .j) (e .c)
+  lower-start h = start-before T s (lower-number (begins e) (rec-in (row 5 0 bs)) number q (omega arith) (sym (ends-are .0)) (sym (ends-are .1)) h)
+
+  pub higher-start : b < a → Begins-better bs (e .i) (e .j) (e .c) → ⊥
+  higher-start h =
+      start-after T s (lower-number (rec-in (row 5 0 bs)) (begins e) q number (omega (arith, ends-are .0, ends-are .1)) (ends-are .0) (ends-are .1) h)
+
+  pub same-start : a ≡ b → begins e ≡ rec-in (row 5 0 bs)
+  same-start h = same-number (begins e) (rec-in (row 5 0 bs)) number q (omega arith) (sym (ends-are .0)) (sym (ends-are .1)) h
+
+-- the code's own start is that along its first record
+pub own-start :
+    {t bs : List ℕ} (T : Tabled t bs) {e : Rec} → Seen-cable (decoded (code-records bs)) e → e ≡ rec-in (row 5 0 bs)
+    → (Better-below bs 1 (first-state 0 1) → ⊥) → Better-below bs 1 (first-state (e .i) (e .j)) → ⊥
+own-start {t} {bs} T {e} s is none =
+    subst (λ (w : ℕ). Better-below bs 1 (first-state (e .i) w) → ⊥) (sym (ap (λ (r : Rec). r .j) is ∙ first-ends T s .1))
+    (subst (λ (u : ℕ). Better-below bs 1 (first-state u 1) → ⊥) (sym (ap (λ (r : Rec). r .i) is ∙ first-ends T s .0)) none)
 
 -- ALL STARTS, record by record
 module _ (bs : List ℕ) where

@@ -1,3 +1,7 @@
+-- Definitions.
+pub mod OwnTies
 -- Laws.
+pub mod LabelNumbers
 pub mod LeastStarts
 pub mod FrontLaws
+pub mod OwnTieLaws

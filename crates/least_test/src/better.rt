@@ -1,9 +1,8 @@
-// Whether an accepted code is the least of the drawing that it describes: the test of a search that makes many codes. It
-// looks, at each numbering of the code's own first records, for a record before the code's next one. Numbers are given in
-// place and taken back, so that no array is copied.
+// Whether a branch that follows a code sees a record before the code's own: at each numbering of the code's first records it looks for
+// one before the next. Numbers are given in place and taken back, so that no array is copied.
 use least_seen::seen::chord_order;
+use least_seen::seen::counted_label;
 use least_seen::seen::device_at;
-use least_seen::seen::free_label;
 use least_seen::seen::is_lower;
 use least_seen::seen::place_of;
 use least_seen::seen::some_before;
@@ -11,23 +10,19 @@ use least_seen::seen::wanted_label;
 use records::code::Code;
 use records::drawing::Drawing;
 use tables::record::Order;
-use tables::record::Record;
 use tables::table::CELLS;
-use tables::table::labels_of_code;
-ghost use Prim.Native.Nat.{_+_, _*_, _<_};
+ghost use Prim.Native.Nat.{_<_};
 ghost use Rattle.laws.specs.Decides.{Decides};
-ghost use Rattle.codes.specs.Code.{recs-in, decoded, code-records, Least};
 ghost use Rattle.codes.specs.BranchState.{first-state};
-ghost use Rattle.tables.specs.Records.{as-rec};
-ghost use Rattle.least_seen.specs.Betters.{Better-below, Seen-cable, Begins-better, Some-start};
-ghost use Rattle.least_seen.specs.Accepting.{Accepted-front, in-place};
-ghost use Rattle.least_seen.specs.Accepting.{Test-counts, Test-goes-on, Goes-ahead};
-ghost use Rattle.least_seen.specs.Accepting.{Taken-back};
+ghost use Rattle.codes.specs.Twins.{Twins-noted};
+ghost use Rattle.least_seen.specs.Betters.{Better-below};
+ghost use Rattle.least_seen.specs.Accepting.{in-place, Test-goes-on, Goes-ahead, Taken-back};
 
 // Whether a branch that has followed the first t records sees one before record t, or leads to one that sees one later.
 // Where it does not, each number given is taken back.
 fn better(
     table: &[u32; CELLS],
+    twins: &[u8; Drawing::MOST_DEVICES],
     code: &[u8],
     m: usize,
     n: usize,
@@ -39,7 +34,8 @@ fn better(
     given: usize,
     low: usize,
 ) -> bool
-    requires { ⌜ Test-goes-on (now table) (now code) m n t (in-place (now numbers) (now used) (now path) count given low) ⌝ }
+    requires { ⌜ Test-goes-on (now table) (now code) m n t (in-place (now numbers) (now used) (now path) count given low)
+        × Twins-noted (now table) (now twins) ⌝ }
     ensures { λ r. ⌜ Decides r (Better-below (now (code .entry)) t
         (in-place (now (numbers .entry)) (now (used .entry)) (now (path .entry)) count given low))
         × Taken-back r (now (numbers .entry)) (now (numbers .exit)) (now (used .entry)) (now (used .exit))
@@ -51,13 +47,27 @@ fn better(
     let i = code[Code::RECORD_BYTES * t];
     let j = code[Code::RECORD_BYTES * t + 1];
     if i < j {
-        return edge_better(table, code, m, n, t, numbers, used, path, count, given, low);
+        return edge_better(
+            table,
+            twins,
+            code,
+            m,
+            n,
+            t,
+            numbers,
+            used,
+            path,
+            count,
+            given,
+            low,
+        );
     }
     let q = place_of(path, count, j);
     match chord_order(table, numbers, path, count, low, q, wanted_label(code, t)) {
         Order::Before => true,
         Order::Equal => better(
             table,
+            twins,
             code,
             m,
             n,
@@ -73,9 +83,11 @@ fn better(
     }
 }
 
-// The same where record t is forward: each device without a number that has the record's label is a way to follow.
+// The same where record t is forward: each device without a number that has the record's label is a way to follow, but of
+// exchangeable ones the first stands for all.
 fn edge_better(
     table: &[u32; CELLS],
+    twins: &[u8; Drawing::MOST_DEVICES],
     code: &[u8],
     m: usize,
     n: usize,
@@ -87,7 +99,8 @@ fn edge_better(
     given: usize,
     low: usize,
 ) -> bool
-    requires { ⌜ Goes-ahead (now table) (now code) m n t (in-place (now numbers) (now used) (now path) count given low) ⌝ }
+    requires { ⌜ Goes-ahead (now table) (now code) m n t (in-place (now numbers) (now used) (now path) count given low)
+        × Twins-noted (now table) (now twins) ⌝ }
     ensures { λ r. ⌜ Decides r (Better-below (now (code .entry)) t
         (in-place (now (numbers .entry)) (now (used .entry)) (now (path .entry)) count given low))
         × Taken-back r (now (numbers .entry)) (now (numbers .exit)) (now (used .entry)) (now (used .exit))
@@ -100,7 +113,7 @@ fn edge_better(
     }
     let from = device_at(numbers, path, q);
     for w in 0..n {
-        let l = free_label(table, used, from, w);
+        let l = counted_label(table, twins, used, from, w);
         if is_lower(l, wanted) {
             return true;
         }
@@ -112,6 +125,7 @@ fn edge_better(
             path[q + 1] = given as u8;
             if better(
                 table,
+                twins,
                 code,
                 m,
                 n,
@@ -134,8 +148,17 @@ fn edge_better(
 }
 
 // Whether the branch that begins with device u as 0 and device w as 1 does.
-fn first_better(table: &[u32; CELLS], code: &[u8], m: usize, n: usize, u: usize, w: usize) -> bool
-    requires { ⌜ (u < 10) × (w < 10) × Test-goes-on (now table) (now code) m n 1 (first-state u w) ⌝ }
+pub fn first_better(
+    table: &[u32; CELLS],
+    twins: &[u8; Drawing::MOST_DEVICES],
+    code: &[u8],
+    m: usize,
+    n: usize,
+    u: usize,
+    w: usize,
+) -> bool
+    requires { ⌜ (u < 10) × (w < 10) × Test-goes-on (now table) (now code) m n 1 (first-state u w)
+        × Twins-noted (now table) (now twins) ⌝ }
     ensures { λ r. ⌜ Decides r (Better-below (now (code .entry)) 1 (first-state u w)) ⌝ }
 {
     let mut numbers = [0; Drawing::MOST_DEVICES];
@@ -148,6 +171,7 @@ fn first_better(table: &[u32; CELLS], code: &[u8], m: usize, n: usize, u: usize,
     path[1] = 1;
     better(
         table,
+        twins,
         code,
         m,
         n,
@@ -159,69 +183,4 @@ fn first_better(table: &[u32; CELLS], code: &[u8], m: usize, n: usize, u: usize,
         2,
         0,
     )
-}
-
-// Whether a code that begins with a cable, seen from its i, comes before this one.
-fn start_better(table: &[u32; CELLS], code: &[u8], m: usize, n: usize, cable: Record) -> bool
-    requires { ⌜ Test-counts (now table) (now code) m n × Seen-cable (decoded (code-records (now code))) (as-rec cable) ⌝ }
-    ensures { λ r. ⌜ Decides r (Begins-better (now (code .entry)) (cable .i) (cable .j) (cable .c)) ⌝ }
-{
-    let begins = Record {
-        i: 0,
-        j: 1,
-        ki: cable.ki,
-        c: cable.c,
-        kj: cable.kj,
-    };
-    match begins.order(Record::at(code, 0)) {
-        Order::Before => true,
-        Order::Equal => first_better(table, code, m, n, cable.i as usize, cable.j as usize),
-        Order::After => false,
-    }
-}
-
-// Whether some start does: every cable of the code, seen from each of its ends. The first is the code's own numbering, by
-// which most codes that are not least are found out. n is any bound of the devices' number.
-pub fn some_start_better(table: &[u32; CELLS], code: &[u8], m: usize, n: usize) -> bool
-    requires { ⌜ Test-counts (now table) (now code) m n ⌝ }
-    ensures { λ r. ⌜ Decides r (Some-start (code-records (now (code .entry)))) ⌝ }
-{
-    for k in 0..m {
-        let cable = Record::at(code, k);
-        if start_better(table, code, m, n, cable) {
-            return true;
-        }
-        let reversed = Record {
-            i: cable.j,
-            j: cable.i,
-            ki: cable.kj,
-            c: cable.c,
-            kj: cable.ki,
-        };
-        if start_better(table, code, m, n, reversed) {
-            return true;
-        }
-    }
-    false
-}
-
-// Whether the code of m records at the front of some bytes is the least.
-fn least_front(code: &[u8], m: usize, n: usize) -> bool
-    requires { ⌜ Accepted-front (now code) m n ⌝ }
-    ensures { λ r. ⌜ Decides r (Least (decoded (recs-in m (now (code .entry)))) (recs-in m (now (code .entry)))) ⌝ }
-{
-    let end = Code::RECORD_BYTES * m;
-    let table = labels_of_code(&code[..end]);
-    if some_start_better(&table, &code[..end], m, n) {
-        return false;
-    }
-    true
-}
-
-// Whether an accepted code of m records, of n devices, is the least of the drawing that it describes.
-pub fn least_accepted(code: &[u8; Code::BYTES], m: usize, n: usize) -> bool
-    requires { ⌜ Accepted-front (now code) m n ⌝ }
-    ensures { λ r. ⌜ Decides r (Least (decoded (recs-in m (now (code .entry)))) (recs-in m (now (code .entry)))) ⌝ }
-{
-    least_front(code, m, n)
 }

@@ -9,6 +9,7 @@ use Rattle.codes.specs.CodeOrder.{kinds-order}
 use Rattle.growth.specs.Growth.{Listed, Listed-by}
 use Rattle.growth.specs.Frequent.{Frequent}
 use Rattle.growth.specs.Firsts.{Firsts}
+use Rattle.growth.specs.Sizes.{candidates-size}
 use Rattle.growing.specs.declared.grow.Growth.{Growth}
 use Rattle.growing.specs.declared.grow.Settings.{Settings}
 use Rattle.walks.specs.LabelMarks.{drawings-of}
@@ -19,7 +20,7 @@ pub record Can-mine (survey labels rank alphabet : List ℕ) (g : Settings) (cel
   pub set-up : Set-up survey labels rank alphabet g
   pub some : 1 ≤ g .limit
   pub blank : Blank cells seen
-  pub list-size : length list ≡ 163840
+  pub list-size : length list ≡ candidates-size
 
 -- ALL FREQUENT LEAST CODES are listed, or they do not fit
 abbrev pub Mined : (survey : List ℕ) (g : Settings) (out : List ℕ) → Growth → (out-now : List ℕ) → Type 0
@@ -31,7 +32,7 @@ Mined survey g out r z =
 pub record Kinds-done (survey : List ℕ) (g : Settings) (out : List ℕ) (k : ℕ) (cells seen list out-now : List ℕ) (written : ℕ) : Type 0 where
   pub low : k ≤ 256
   pub blank : Blank cells seen
-  pub list-size : length list ≡ 163840
+  pub list-size : length list ≡ candidates-size
   pub size : length out-now ≡ length out
   pub room : 42 * written ≤ length out-now
   pub firsts : List Rec

@@ -8,8 +8,9 @@ use native.Mathlib.Omega.{arith}
 use lib.ListN.{length, getD}
 use Rattle.laws.specs.Lists.{Mem, concat}
 use Rattle.graphs.specs.Drawing.{Drawing}
-use Rattle.codes.specs.Code.{Rec, kinds-before, before-by}
+use Rattle.codes.specs.Code.{Rec, decoded, kinds-before, before-by}
 use Rattle.codes.specs.CodeOrder.{kinds-order, difference-decides}
+use Rattle.codes.specs.Greedy.{Greedy}
 use Rattle.growth.specs.Catalogue.{all-bytes}
 use Rattle.growth.specs.Growth.{Listed-by, listed-none}
 use Rattle.growth.specs.Frequent.{Frequent}
@@ -51,6 +52,11 @@ fit-first :
     → Counting place (First-of k) ds i sets → Counting place (Fit k γ) ds i sets
 fit-first k [] e c = c
 fit-first k (r ∷ rs) e c = absurd (omega (arith, ap (λ (x : List Rec). length x) e))
+
+-- a code of no records is greedy
+greedy-none : (γ : List Rec) → γ ≡ [] → Greedy kinds-before (decoded γ) [] γ
+unfolding Greedy
+greedy-none γ e = subst (λ (δ : List Rec). Greedy kinds-before (decoded δ) [] δ) (sym e) tt
 
 module _ {survey labels rank alphabet : List ℕ} {g : Settings} {cells seen list : List ℕ}
     (a : Can-mine survey labels rank alphabet g cells seen list) where
@@ -134,6 +140,7 @@ module _ {survey labels rank alphabet : List ℕ} {g : Settings} {cells seen lis
             set-up = a .set-up;
             holding = holding-new n;
             more = omega (arith, n .no-record, a .some);
+            greedy = greedy-none (records-of h) (no-records n);
             sets = c .sets;
             counting = fit-first k (records-of h) (no-records n) (c .counting);
             chosen = chosen-cells;

@@ -40,6 +40,7 @@ use Rattle.walks.specs.LabelMarks.{drawings-of, Zeroed}
 use Rattle.walks.specs.DrawingTables.{Tables}
 use Rattle.walks.specs.Tally.{Cells-sized}
 use Rattle.growth.specs.EntryLaws.{entries-sized}
+use Rattle.growth.specs.Sizes.{places-size, candidates-size}
 use Rattle.growing.specs.GrowthOutcomes.{Lists-more, Too-many}
 use Rattle.mining.specs.SurveyMined.{Can-mine, Mined}
 
@@ -58,7 +59,7 @@ Writes bs s l o r z = (es : List Entry) × Catalogue (drawings-of bs) s l es × 
 -- THE TABLES AT HAND
 pub can-mine :
     {bs labels rank alphabet cells seen list : List ℕ} {n s l : ℕ} → Accepted-call bs s l → Tables bs labels → Ranks (drawings-of bs) rank alphabet n
-    → Zeroed cells → length cells ≡ 20480 → length seen ≡ 20480 → length list ≡ 163840
+    → Zeroed cells → length cells ≡ places-size → length seen ≡ places-size → length list ≡ candidates-size
     → Can-mine bs labels rank alphabet (record { labels = n; threshold = s; limit = l }) cells seen list
 can-mine a t o z c e h =
     record {

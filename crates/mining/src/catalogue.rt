@@ -4,6 +4,8 @@ use candidates::choose::CANDIDATES;
 use checks::survey::check_survey;
 use growing::grow::Growth;
 use growing::grow::Settings;
+use listing::level::ENDS;
+use listing::rows::KEPT;
 use marking::cells::PLACES;
 use records::bytes::clear;
 use records::catalogued::Catalogued;
@@ -38,6 +40,8 @@ fn write_accepted(survey: &[u8], threshold: usize, limit: usize, output: &mut [u
     let mut cells = [0; PLACES];
     let mut seen = [0; PLACES];
     let mut list = [0; CANDIDATES];
+    let mut kept = [0; KEPT];
+    let mut ends = [0; ENDS];
     let grown = mine(
         survey,
         &labels,
@@ -47,6 +51,8 @@ fn write_accepted(survey: &[u8], threshold: usize, limit: usize, output: &mut [u
         &mut cells,
         &mut seen,
         &mut list,
+        &mut kept,
+        &mut ends,
         output,
     );
     match grown {

@@ -5,6 +5,8 @@ use counting::count::count_firsts;
 use growing::grow::Growth;
 use growing::grow::Settings;
 use growing::grow::walk;
+use listing::level::ENDS;
+use listing::rows::KEPT;
 use marking::cells::PLACES;
 use readings::reading::Reading;
 use surveys::kinds::KINDS;
@@ -12,6 +14,7 @@ use surveys::kinds::kinds_of;
 use surveys::labels::TABLES;
 use surveys::ranks::ALPHABET;
 use surveys::ranks::LABELS;
+ghost use Rattle.walks.specs.EmbeddingLists.{Lists-sized};
 ghost use Rattle.mining.specs.SurveyMined.{Can-mine, Mined};
 
 // Writes an entry for every pattern that enough drawings contain.
@@ -24,10 +27,12 @@ pub fn mine(
     cells: &mut [u64; PLACES],
     seen: &mut [u16; PLACES],
     list: &mut [u64; CANDIDATES],
+    kept: &mut [u8; KEPT],
+    ends: &mut [usize; ENDS],
     output: &mut [u8],
 ) -> Growth
     requires { ⌜ Can-mine (now survey) (now labels) (now rank) (now alphabet) settings
-        (now cells) (now seen) (now list) ⌝ }
+        (now cells) (now seen) (now list) × Lists-sized (now kept) (now ends) ⌝ }
     ensures { λ r. ⌜ Mined (now (survey .entry)) settings (now (output .entry)) r (now (output .exit)) ⌝ }
 {
     let mut written = 0;
@@ -50,6 +55,9 @@ pub fn mine(
                 list,
                 0,
                 top,
+                true,
+                kept,
+                ends,
                 output,
                 written,
             ) else {

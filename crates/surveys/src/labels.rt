@@ -10,6 +10,7 @@ ghost use Rattle.laws.specs.Rows.{row};
 ghost use Rattle.graphs.specs.Survey.{bytes-refusal};
 ghost use Rattle.codes.specs.BranchState.{label-at};
 ghost use Rattle.laws.specs.PutRecords.{put-record};
+ghost use Rattle.growth.specs.Sizes.{tables-size};
 ghost use Rattle.walks.specs.DrawingTables.{Tables};
 
 // A table for each drawing that a survey may have.
@@ -17,7 +18,7 @@ pub const TABLES: usize = Survey::MOST_DRAWINGS * CELLS;
 
 // Puts a drawing's table in its place.
 fn put_table(table: &[u32; CELLS], d: usize, labels: &mut [u32; TABLES])
-    requires { ⌜ (d < 32) × (length (now table) ≡ 100) × (length (now labels) ≡ 3200) ⌝ }
+    requires { ⌜ (d < 32) × (length (now table) ≡ 100) × (length (now labels) ≡ tables-size) ⌝ }
     ensures { λ _. ⌜ now (labels .exit) ≡ put-record 100 d (now (table .entry)) (now (labels .entry)) ⌝ }
 {
     let at = CELLS * d;
@@ -28,7 +29,7 @@ fn put_table(table: &[u32; CELLS], d: usize, labels: &mut [u32; TABLES])
 
 // The tables of all drawings of an accepted survey. What lies past the last is as it was.
 pub fn fill_labels(survey: &[u8], labels: &mut [u32; TABLES])
-    requires { ⌜ (bytes-refusal (now survey) .number ≡ 0) × (length (now labels) ≡ 3200) ⌝ }
+    requires { ⌜ (bytes-refusal (now survey) .number ≡ 0) × (length (now labels) ≡ tables-size) ⌝ }
     ensures { λ _. ⌜ Tables (now (survey .entry)) (now (labels .exit)) ⌝ }
 {
     let drawings = Survey::counted(survey).drawings;

@@ -2,3 +2,4 @@
 // what `requires` says; the entries of the public crates ask nothing.
 pub mod record; // record.rt: a record of a code, and the order of two records
 pub mod table; // table.rt: the labels of a drawing's cables, seen from each end
+pub mod twins; // twins.rt: the exchangeable devices of a drawing

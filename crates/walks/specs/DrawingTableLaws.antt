@@ -12,6 +12,7 @@ use Rattle.graphs.specs.Drawing.{drawing-in}
 use Rattle.codes.specs.BranchState.{Labels}
 use Rattle.laws.specs.PutRecords.{put-record}
 use Rattle.laws.specs.PutRecordLaws.{put-length, put-same, put-other}
+use Rattle.growth.specs.Sizes.{tables-size}
 use Rattle.walks.specs.DrawingTables.{Tables-before}
 
 -- ONE RECORD of any size, copied in
@@ -21,7 +22,7 @@ copied-whole w k r xs e = ap (λ (l : List ℕ). take (w * k) xs ++ l ++ drop (w
 
 -- TABLE BY TABLE
 module _ (bs : List ℕ) where
-  pub tables-none : (ls : List ℕ) → length ls ≡ 3200 → Tables-before 0 bs ls
+  pub tables-none : (ls : List ℕ) → length ls ≡ tables-size → Tables-before 0 bs ls
   tables-none ls e = record { size = e; table = λ d h. absurd (not-suc-le-zero h) }
 
   pub tables-next :

@@ -7,10 +7,11 @@ use Rattle.laws.specs.Rows.{row}
 use Rattle.graphs.specs.Drawing.{drawing-in}
 use Rattle.codes.specs.BranchState.{Labels}
 use Rattle.graphs.specs.Survey.{drawing-count}
+use Rattle.growth.specs.Sizes.{tables-size}
 
 -- those of the first n drawings, in room for 32
 pub record Tables-before (n : ℕ) (survey labels : List ℕ) : Type 0 where
-  pub size : length labels ≡ 3200
+  pub size : length labels ≡ tables-size
   pub table : (d : ℕ) → d < n → Labels (drawing-in (row 72 d survey)) (row 100 d labels)
 
 -- all of them

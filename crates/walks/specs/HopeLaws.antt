@@ -1,24 +1,28 @@
 -- The look ahead before a code grows. Rests on Hopeless. Assumes nothing.
 use mathlib.Core.Path.{_≡_, refl, sym, ap, ap₂, _∙_, subst}
-use mathlib.Core.Bool.{Bool, true, false, _&&_, _||_}
+use mathlib.Core.Bool.{Bool, true, false, true≢false, _&&_, _||_}
 use mathlib.Core.List.{List, [], _∷_, _++_, map, append-assoc}
 use Prim.Native.Nat.{ℕ, zero, suc, _+_, _*_, _≤_, _<_}
 use native.Mathlib.Nat.{not-suc-le-zero, le-of-suc-le-suc}
 use native.Mathlib.Omega.{arith}
 use lib.Dec.{ltb, eqb}
-use lib.ListN.{length, getD, take, drop, List·getD-map}
+use lib.ListN.{length, length-append, getD, take, drop, List·getD-map}
 use borrow.Author.Tests.{ltb-true, lt-ltb, le-ltb, eq-eqb, ne-eqb}
-use Rattle.laws.specs.Lists.{snoc, getD-default}
+use Rattle.laws.specs.Decides.{Decides}
+use Rattle.laws.specs.Tests.{true-and-false}
+use Rattle.laws.specs.Lists.{snoc, snoc-length, getD-default}
 use Rattle.laws.specs.Rows.{row, rows, rows-length, rows-at}
 use Rattle.graphs.specs.Graph.{Pattern}
 use Rattle.graphs.specs.Patterns.{pattern-from-test}
 use Rattle.codes.specs.Code.{Rec, fresh, rec-in, recs-in, rows-refusal, decoded, kinds-before, Least}
 use Rattle.codes.specs.CodeOrder.{kinds-order}
 use Rattle.codes.specs.CodeBytes.{recs-in-length}
+use Rattle.codes.specs.Greedy.{Greedy}
 use Rattle.codes.specs.Overlooked.{relabelled, Overlooks, by-edge, by-chord}
+use Rattle.codes.specs.OwnNumbering.{Well-grown}
 use Rattle.codes.specs.Hopeless.{begins-with, last-cable, own-node, first-hopeless, reversed-hopeless, sibling-hopeless}
 use Rattle.tables.specs.RecordLaws.{record-read}
-use Rattle.walks.specs.Hopes.{record-of, Can-look, Overlooked-at, Finds, Hopeless-if}
+use Rattle.walks.specs.Hopes.{record-of, Can-look, Overlooked-by, Overlooked-at, Hopeless-if}
 use Rattle.walks.specs.Hopes.{with-labels}
 
 -- THE ORDER OF LABELS, test by test
@@ -78,23 +82,30 @@ module _ (code : List ℕ) (t : ℕ) where
         → ltb kj (getD code (5 * t + 4) 0) ≡ kinds-before (with-labels ki c kj) (record-of code t)
     other-left k e = rw read-kj (other-decides 0 1 ki c kj (record-of code t) (k ∙ read-ki) (e ∙ read-c))
 
-  -- a cable that comes before record t from its own device
-  pub finds :
-      (m a c kj ki : ℕ) (b r : Bool) → 1 ≤ t → t < m → getD code (5 * t) 0 ≡ a → a < getD code (5 * t + 1) 0 → ki ≡ getD code (5 * t + 2) 0
-      → b ≡ kinds-before (with-labels ki c kj) (record-of code t) → b ≡ true → Finds code m a c kj r
+  -- whether a cable comes before record t from its own device
+  pub overlooked-told :
+      (a c kj ki : ℕ) (b : Bool) → getD code (5 * t) 0 ≡ a → a < getD code (5 * t + 1) 0 → ki ≡ getD code (5 * t + 2) 0
+      → b ≡ kinds-before (with-labels ki c kj) (record-of code t) → Decides b (Overlooked-by code t a c kj)
   unfolding kinds-before
-  finds m a c kj ki b r some below is up k e said =
+  overlooked-told a c kj ki b is up k e =
       record {
-        found = λ q.
+        holds = λ said.
             record {
-              t = t;
-              some = some;
-              below = below;
               forward = omega (arith, read-i, read-j, is);
               from = sym is ∙ read-i;
               earlier = subst (λ (x : ℕ). kinds-before (with-labels x c kj) (record-of code t) ≡ true) (k ∙ read-ki) (sym e ∙ said);
             };
+        fails = λ said o.
+            true-and-false (o .earlier)
+            (subst (λ (x : ℕ). kinds-before (with-labels x c kj) (record-of code t) ≡ false) (k ∙ read-ki) (sym e ∙ said));
       }
+
+  -- a record from another device, or a backward one, is none
+  pub other-device : (a c kj : ℕ) → (getD code (5 * t) 0 ≡ a → ⊥) → Overlooked-by code t a c kj → ⊥
+  other-device a c kj n o = n (read-i ∙ sym (o .from))
+
+  pub not-forward : (a c kj : ℕ) → getD code (5 * t + 1) 0 ≤ a → Overlooked-by code t a c kj → ⊥
+  not-forward a c kj h o = omega (arith, read-j, o .from, o .forward)
 
 -- A LIST AT ONE OF ITS ELEMENTS
 split-at : {A : Type 0} (xs : List A) (t : ℕ) (z : A) → t < length xs → xs ≡ take t xs ++ getD xs t z ∷ drop (suc t) xs
@@ -107,6 +118,20 @@ unfolding recs-in
 record-there code m t z h =
     getD-default (map rec-in (rows 5 m code)) t z (rec-in []) (rw (recs-in-length m code) h)
     ∙ List·getD-map rec-in (rows 5 m code) t [] ∙ rw (rows-at 5 m t code h)
+
+-- the element behind others
+at-behind : (r : Rec) (ps : List Rec) (s : Rec) (ms : List Rec) (z : Rec) → getD (r ∷ ps ++ s ∷ ms) (suc (length ps)) z ≡ s
+at-behind r [] s ms z = refl
+at-behind r (p ∷ ps) s ms z = at-behind p ps s ms z
+
+-- lists with a last element are the same only by both parts
+snoc-same : (xs ys : List Rec) (x y : Rec) → snoc xs x ≡ snoc ys y → (xs ≡ ys) × (x ≡ y)
+snoc-same [] [] x y e = (refl, ap (λ (l : List Rec). getD l 0 x) e)
+snoc-same [] (b ∷ ys) x y e = absurd (omega (arith, ap length e, snoc-length ys y))
+snoc-same (a ∷ xs) [] x y e = absurd (omega (arith, ap length e, snoc-length xs x))
+snoc-same (a ∷ xs) (b ∷ ys) x y e =
+    let t = snoc-same xs ys x y (ap (drop 1) e) in
+    (ap₂ {C = List Rec} (λ z l. z ∷ l) (ap (λ (l : List Rec). getD l 0 a) e) (t .0), t .1)
 
 module _ {code : List ℕ} {m : ℕ} {e : Rec} (a : Can-look code m e) where
   -- THE WHOLE CODE, by its first record
@@ -148,7 +173,8 @@ module _ {code : List ℕ} {m : ℕ} {e : Rec} (a : Can-look code m e) where
       whole-hopeless (recs-in m code) (a .accepted) pattern e [] is .1 (rw (lt-ltb (e .kj) (e .ki) h))
 
   pub lone-look : m ≡ 0 → Hopeless-if code m e (ltb (e .kj) (e .ki))
-  lone-look none = record { not-least = λ q. lone-hopeless none (ltb-true (e .kj) (e .ki) q) }
+  lone-look none =
+      record { not-least = λ q. lone-hopeless none (ltb-true (e .kj) (e .ki) q); hopeful = λ q t one low. absurd (omega arith) }
 
   -- BEFORE THE FIRST RECORD
   module _ (some : 0 < m) where
@@ -192,12 +218,57 @@ module _ {code : List ℕ} {m : ℕ} {e : Rec} (a : Can-look code m e) where
       → Least (decoded (snoc (recs-in m code) e)) (snoc (recs-in m code) e) → ⊥
   found-hopeless b k o v =
       at-hopeless (recs-in m code) (o .t) (record-of code (o .t)) (a .accepted) pattern (o .some) (rw (recs-in-length m code) (o .below))
-      (record-there code m (o .t) (record-of code (o .t)) (o .below)) (o .forward) v
+      (record-there code m (o .t) (record-of code (o .t)) (o .below)) (o .by .forward) v
 
-  pub edge-hopeless : (r : Bool) → e .i < e .j → Finds code m (e .i) (e .c) (e .kj) r → Hopeless-if code m e r
+  pub edge-hopeless : (r : Bool) → e .i < e .j → Decides r (Overlooked-at code m (e .i) (e .c) (e .kj)) → Hopeless-if code m e r
   edge-hopeless r up f =
-      record { not-least = λ q. let o = f .found q in found-hopeless (e .i) (e .kj) o (by-edge up (o .from) (o .earlier)) }
+      record {
+        not-least = λ q. let o = f .holds q in found-hopeless (e .i) (e .kj) o (by-edge up (o .by .from) (o .by .earlier));
+        hopeful = λ q t one low ahead v. none q t one low ahead v;
+      }
+    where
+      none : r ≡ false → (t : ℕ) → 1 ≤ t → t < m → record-of code t .i < record-of code t .j → Overlooks kinds-before (record-of code t) e → ⊥
+      none q t one low ahead (by-edge a i z) =
+          f .fails q (record { t = t; some = one; below = low; by = record { forward = ahead; from = i; earlier = z } })
+      none q t one low ahead (by-chord a i z) = omega arith
 
-  pub chord-hopeless : (r : Bool) → e .j ≤ e .i → Finds code m (e .j) (e .c) (e .ki) r → Hopeless-if code m e r
+  pub chord-hopeless : (r : Bool) → e .j ≤ e .i → Decides r (Overlooked-at code m (e .j) (e .c) (e .ki)) → Hopeless-if code m e r
   chord-hopeless r down f =
-      record { not-least = λ q. let o = f .found q in found-hopeless (e .j) (e .ki) o (by-chord down (o .from) (o .earlier)) }
+      record {
+        not-least = λ q. let o = f .holds q in found-hopeless (e .j) (e .ki) o (by-chord down (o .by .from) (o .by .earlier));
+        hopeful = λ q t one low ahead v. none q t one low ahead v;
+      }
+    where
+      none : r ≡ false → (t : ℕ) → 1 ≤ t → t < m → record-of code t .i < record-of code t .j → Overlooks kinds-before (record-of code t) e → ⊥
+      none q t one low ahead (by-edge a i z) = omega arith
+      none q t one low ahead (by-chord a i z) =
+          f .fails q (record { t = t; some = one; below = low; by = record { forward = ahead; from = i; earlier = z } })
+
+  -- a certain no
+  pub told-hopeless :
+      (Least (decoded (snoc (recs-in m code) e)) (snoc (recs-in m code) e) → ⊥) → Hopeless-if code m e true
+  told-hopeless n = record { not-least = λ q. n; hopeful = λ q. absurd (true≢false q) }
+
+-- A CODE THAT GROWS by a record that overlooks none grows well, where it is greedy itself
+module _ (code : List ℕ) (m : ℕ) (e : Rec) (greedy : Greedy kinds-before (decoded (recs-in m code)) [] (recs-in m code))
+    (hopeful : (t : ℕ) → 1 ≤ t → t < m → record-of code t .i < record-of code t .j → Overlooks kinds-before (record-of code t) e → ⊥) where
+  record-behind :
+      (r : Rec) (qs : List Rec) → recs-in m code ≡ r ∷ qs → (ps : List Rec) (s : Rec) (ms : List Rec) → ps ++ s ∷ ms ≡ qs
+      → (suc (length ps) < m) × (record-of code (suc (length ps)) ≡ s)
+  record-behind r qs is ps s ms at =
+      let whole : recs-in m code ≡ r ∷ ps ++ s ∷ ms = is ∙ ap (λ (xs : List Rec). r ∷ xs) (sym at) in
+      let low : suc (length ps) < m =
+      omega (arith, sym (recs-in-length m code) ∙ ap length whole, length-append ps (s ∷ ms)) in
+      (low, sym (record-there code m (suc (length ps)) s low) ∙ ap (λ (xs : List Rec). getD xs (suc (length ps)) s) whole ∙ at-behind r ps s ms s)
+
+  pub grown-well : Well-grown (snoc (recs-in m code) e)
+  grown-well =
+      record {
+        greedy = λ δ f is.
+            subst (λ (γ : List Rec). Greedy kinds-before (decoded γ) [] γ) (snoc-same (recs-in m code) δ e f is .0) greedy;
+        hopeful = λ r qs f is ps s ms at o up.
+            let same = snoc-same (recs-in m code) (r ∷ qs) e f is in
+            let behind = record-behind r qs (same .0) ps s ms at in
+            hopeful (suc (length ps)) (omega arith) (behind .0) (subst (λ (x : Rec). x .i < x .j) (sym (behind .1)) up)
+            (subst (λ (x : Rec). Overlooks kinds-before x e) (sym (behind .1)) (subst (Overlooks kinds-before s) (sym (same .1)) o));
+      }

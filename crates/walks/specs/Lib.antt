@@ -16,6 +16,9 @@ pub mod Hopes
 pub mod Kinds
 pub mod Plans
 pub mod Visits
+pub mod EmbeddingLists
+pub mod EmbeddingRows
+pub mod ListedCounts
 -- Laws over them.
 pub mod TallyLaws
 pub mod PutLaws
@@ -43,3 +46,9 @@ pub mod PlanStepLaws
 pub mod VisitWayLaws
 pub mod VisitFirstLaws
 pub mod DrawingPlans
+pub mod EmbeddingListLaws
+pub mod EmbeddingRowLaws
+pub mod EmbeddingStepLaws
+pub mod EmbeddingLevelLaws
+pub mod ListedRowLaws
+pub mod ListedCountLaws

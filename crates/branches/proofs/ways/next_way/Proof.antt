@@ -11,7 +11,10 @@ enum-known-step : tie.Need-enum-known-step
 enum-known-step c = search needs
 
 next-tie-requires : tie.Need-next-tie-requires
-next-tie-requires c κs = rw (c .before .step .given .1) at (c .before .before .before .pre)
+next-tie-requires c κs =
+    let p = c .before .before .before .pre in
+    let z = rw (c .before .step .given .1) at (p .0) in
+    (z .0, z .1, p .1)
 
 enum-told-2 : tie.Need-enum-told-2
 enum-told-2 c = search needs

@@ -4,7 +4,7 @@ use Prim.Native.Nat.{_<_, _≤_}
 use native.Mathlib.Omega.{arith}
 use borrow.Author.Needs.{needs}
 use borrow.Author.Tests.{ltb-true}
-use Rattle.walks.specs.HopeLaws.{lone-look, before-hopeless, against-hopeless, edge-hopeless, chord-hopeless}
+use Rattle.walks.specs.HopeLaws.{lone-look, told-hopeless, before-hopeless, against-hopeless, edge-hopeless, chord-hopeless}
 use Rattle.candidates.proofs.hopeful.hopeless.Statement.{statement}
 use Rattle.candidates.proofs.hopeful.hopeless.Tie as tie
 use Rattle.candidates.proofs.hopeful.hopeless.Reads as reads
@@ -21,10 +21,8 @@ labels-before-requires c κs = search needs
 returns-2 : tie.Need-returns-2
 returns-2 c =
     let s = c .before .before .before in
-    record {
-      not-least = λ q. before-hopeless (s .pre) (omega (arith, c .before .before .if1 .left))
-          (sym (c .before .labels-before .ensures) ∙ c .if2 .taken);
-    }
+    told-hopeless (s .pre)
+    (before-hopeless (s .pre) (omega (arith, c .before .before .if1 .left)) (sym (c .before .labels-before .ensures) ∙ c .if2 .taken))
 
 labels-before-requires-2 : tie.Need-labels-before-requires-2
 labels-before-requires-2 c κs = search needs
@@ -32,10 +30,9 @@ labels-before-requires-2 c κs = search needs
 returns-3 : tie.Need-returns-3
 returns-3 c =
     let s = c .before .before .before .before .before in
-    record {
-      not-least = λ q. against-hopeless (s .pre) (omega (arith, c .before .before .before .before .if1 .left))
-          (sym (c .before .labels-before2 .ensures) ∙ c .if3 .taken);
-    }
+    told-hopeless (s .pre)
+    (against-hopeless (s .pre) (omega (arith, c .before .before .before .before .if1 .left))
+    (sym (c .before .labels-before2 .ensures) ∙ c .if3 .taken))
 
 overlooked-requires : tie.Need-overlooked-requires
 overlooked-requires c κs = search needs

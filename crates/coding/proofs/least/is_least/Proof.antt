@@ -1,6 +1,7 @@
 -- `least::is_least` meets its contract: an accepted code is least exactly if no start comes before it. Assumes
 -- nothing.
 use mathlib.Core.Path.{_≡_, refl, sym, _∙_}
+use mathlib.Core.Bool.{true≢false}
 use mathlib.Core.Logic.{inl, inr}
 use native.Mathlib.Omega.{arith}
 use borrow.Author.Needs.{needs}
@@ -40,24 +41,31 @@ enum-told c = search needs
 labels-of-code-requires : tie.Need-labels-of-code-requires
 labels-of-code-requires c κs = known c .accepted
 
+twins-of-requires : tie.Need-twins-of-requires
+twins-of-requires c κs = search needs
+
 some-start-better-requires : tie.Need-some-start-better-requires
 some-start-better-requires c κs =
-    let k = known (c .before .before) in
-    record {
-      tabled = record { accepted = k .accepted; labels = c .before .labels-of-code .ensures };
-      records = refl;
-      within = code-ten _ (k .accepted);
-      most = omega arith;
-    }
+    let w = c .before .before in
+    let k = known (w .before .before .before) in (
+      record {
+        tabled = record { accepted = k .accepted; labels = w .before .before .labels-of-code .ensures };
+        records = refl;
+        within = code-ten _ (k .accepted);
+        most = omega arith;
+      },
+      λ e. absurd (true≢false e),
+      w .twins-of .ensures,
+    )
 
 returns-2 : tie.Need-returns-2
 returns-2 c =
-    let k = c .before .before .before .before in
+    let k = c .before .before .before .before .before .before .before in
     rw (accepted k) (inr (refl, some-not-least _ (code-pattern (known k)) (c .before .some-start-better .ensures .holds (c .if1 .taken))))
 
 returns-3 : tie.Need-returns-3
 returns-3 c =
-    let k = c .before .before .before .before in
+    let k = c .before .before .before .before .before .before .before in
     let good = accepted-code _ (known k .accepted) .good in
     rw (accepted k) (inl (refl, none-least _ good (code-pattern (known k)) (c .before .some-start-better .ensures .fails (c .if1 .left))))
 
@@ -70,6 +78,7 @@ is-least-spec =
     returns
     enum-told
     labels-of-code-requires
+    twins-of-requires
     some-start-better-requires
     returns-2
     returns-3)

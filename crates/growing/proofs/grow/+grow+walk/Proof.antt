@@ -1,7 +1,8 @@
 -- `grow::grow` and `grow::walk` meet their contracts. The walk's invariant: what goes on by the candidates below k is listed.
 -- Assumes nothing.
 use mathlib.Core.Path.{_≡_, refl, sym, ap, _∙_, subst}
-use mathlib.Core.Bool.{Bool, true, false, not, true≢false}
+use mathlib.Core.Bool.{Bool, true, false, not, true≢false, false≢true}
+use mathlib.Core.List.{List}
 use mathlib.Core.Logic.{⊎-elim}
 use Prim.Native.Nat.{ℕ, _+_, _*_, _-_, _/_, _^_, _<_, _≤_}
 use native.Mathlib.Omega.{arith}
@@ -10,6 +11,7 @@ use lib.ListN.{length, getD}
 use Rattle.codes.specs.Code.{Rec}
 use Rattle.tables.specs.Records.{as-rec}
 use Rattle.growth.specs.Places.{record-at}
+use Rattle.walks.specs.Hopes.{Hopeless-if}
 use Rattle.candidates.specs.HeldCode.{records-of, basis, Grows}
 use Rattle.growing.specs.GrowthOutcomes.{On-the-way, Pattern-grown, Entry-put}
 use Rattle.growing.specs.PatternGrowth.{
@@ -25,6 +27,9 @@ use Rattle.growing.specs.PatternGrowth.{
   grow-walks,
   grow-went,
 }
+use Rattle.walks.specs.EmbeddingLists.{Lists-kept}
+use Rattle.walks.specs.EmbeddingListLaws.{lists-kept-same}
+use Rattle.growing.specs.ListsHanded.{lists-made, lists-walked, lists-grow, lists-after}
 use Rattle.growing.specs.CandidateWalk.{
   walk-reads,
   walk-looks,
@@ -45,7 +50,7 @@ use Rattle.growing.proofs.grow.walk.Reads as walk
 use Rattle.growing.proofs.grow.walk.Kinds as walk-kinds
 use Rattle.growing.proofs.grow.+grow+walk.Lts-walk as walk-lts
 use Rattle.candidates.proofs.choose.choose.Reads as choose-reads
-use Rattle.counting.proofs.count.count_extensions.Reads as count-extensions-reads
+use Rattle.counting.proofs.next.count_next.Reads as count-next-reads
 use Rattle.growing.proofs.grow.take_up.Reads as take-up-reads
 use Rattle.candidates.proofs.extension.grown.Reads as grown-reads
 use Rattle.candidates.proofs.hopeful.hopeless.Reads as hopeless-reads
@@ -54,30 +59,30 @@ use Rattle.growing.proofs.grow.+grow+walk.{statement}
 use Rattle.growing.proofs.grow.+grow+walk.Tie.{close}
 
 -- twice the size left, and one less for a walk, which grows what is larger
-abbrev μ-grow : Measures 8 grow-kinds.ps ℕ
+abbrev μ-grow : Measures 10 grow-kinds.ps ℕ
 μ-grow κs a = 2 * (a .1 .1 .1 .1 .0 .limit - a .1 .1 .1 .1 .1 .0 .code .count)
 
-abbrev μ-walk : Measures 8 walk-kinds.ps ℕ
+abbrev μ-walk : Measures 10 walk-kinds.ps ℕ
 μ-walk κs a = 2 * (a .1 .1 .1 .1 .0 .limit - a .1 .1 .1 .1 .1 .0 .code .count) - 1
 
-abbrev grow-at : ℕ → In 8 grow-kinds.ps
-grow-at t = and 8 grow-kinds.ps (is 8 grow-kinds.ps μ-grow t) grow.Pre
+abbrev grow-at : ℕ → In 10 grow-kinds.ps
+grow-at t = and 10 grow-kinds.ps (is 10 grow-kinds.ps μ-grow t) grow.Pre
 
-abbrev grow-below : ℕ → In 8 grow-kinds.ps
-grow-below t = and 8 grow-kinds.ps (falls 8 grow-kinds.ps _<_ μ-grow t) grow.Pre
+abbrev grow-below : ℕ → In 10 grow-kinds.ps
+grow-below t = and 10 grow-kinds.ps (falls 10 grow-kinds.ps _<_ μ-grow t) grow.Pre
 
-abbrev walk-at : ℕ → In 8 walk-kinds.ps
-walk-at t = and 8 walk-kinds.ps (is 8 walk-kinds.ps μ-walk t) walk.Pre
+abbrev walk-at : ℕ → In 10 walk-kinds.ps
+walk-at t = and 10 walk-kinds.ps (is 10 walk-kinds.ps μ-walk t) walk.Pre
 
-abbrev walk-below : ℕ → In 8 walk-kinds.ps
-walk-below t = and 8 walk-kinds.ps (falls 8 walk-kinds.ps _<_ μ-walk t) walk.Pre
+abbrev walk-below : ℕ → In 10 walk-kinds.ps
+walk-below t = and 10 walk-kinds.ps (falls 10 walk-kinds.ps _<_ μ-walk t) walk.Pre
 
 abbrev grow-claims : ℕ → grow-lts.Claims
 grow-claims t = (
   take-up-reads.Asked,
   take-up-reads.Learnt,
-  count-extensions-reads.Asked,
-  count-extensions-reads.Learnt,
+  count-next-reads.Asked,
+  count-next-reads.Learnt,
   choose-reads.Asked,
   choose-reads.Learnt,
   walk-below t,
@@ -105,7 +110,7 @@ ten t c = search needs
 grow-take-up-requires : (t : ℕ) → grow-lts.Need-take-up-requires (grow-claims t) (grow-at t) grow.Post
 grow-take-up-requires t c κs =
     let s = c .before .before .before .before .before .before in
-    grow-takes-up (s .pre .1) (long t s) (ten t s)
+    grow-takes-up (s .pre .1 .0) (long t s) (ten t s)
 
 grow-enum-told : (t : ℕ) → grow-lts.Need-enum-told (grow-claims t) (grow-at t) grow.Post
 grow-enum-told t c = search needs
@@ -119,7 +124,7 @@ grow-returns t c =
     let p = took-passed (records-of (s .args .held)) (s .args .cell) (s .args .count) (s .args .output .now)
     (c .before .before .before .before .take-up .last .1 .1 .1 .1 .0) (c .enum-told .given .1)
     (c .before .before .before .before .take-up .ensures) in
-    grow-passed (s .pre .1) (p .not-least) _ (p .same)
+    (grow-passed (s .pre .1 .0) (p .not-least) _ (p .same), lists-kept-same (s .pre .1 .1 .sized))
 
 grow-enum-told-2 : (t : ℕ) → grow-lts.Need-enum-told-2 (grow-claims t) (grow-at t) grow.Post
 grow-enum-told-2 t c = search needs
@@ -133,7 +138,7 @@ grow-returns-2 t c =
     let p = took-full (records-of (s .args .held)) (s .args .cell) (s .args .count) (s .args .output .now)
     (c .before .before .before .before .take-up .last .1 .1 .1 .1 .0) (c .enum-told2 .given .1)
     (c .before .before .before .before .take-up .ensures) in
-    grow-full (s .pre .1) (p .least) (p .short) _ (p .same)
+    (grow-full (s .pre .1 .0) (p .least) (p .short) _ (p .same), lists-kept-same (s .pre .1 .1 .sized))
 
 grow-enum-told-3 : (t : ℕ) → grow-lts.Need-enum-told-3 (grow-claims t) (grow-at t) grow.Post
 grow-enum-told-3 t c = search needs
@@ -149,79 +154,91 @@ written t c =
     took-written (records-of (s .args .held)) (s .args .cell) (s .args .count) (s .args .output .now)
     (c .before .before .before .before .take-up .last .1 .1 .1 .1 .0) (c .enum-told3 .given .1) (c .before .before .before .before .take-up .ensures)
 
-grow-add-t25 : (t : ℕ) → grow-lts.Need-add-t25 (grow-claims t) (grow-at t) grow.Post
-grow-add-t25 t c = omega (arith, written t (c .before .before) .low)
+grow-add-t28 : (t : ℕ) → grow-lts.Need-add-t28 (grow-claims t) (grow-at t) grow.Post
+grow-add-t28 t c = omega (arith, written t (c .before .before) .low)
 
 grow-same-length-3 : (t : ℕ) → grow-lts.Need-same-length-3 (grow-claims t) (grow-at t) grow.Post
 grow-same-length-3 t c = search needs
 
 grow-returns-3 : (t : ℕ) → grow-lts.Need-returns-3 (grow-claims t) (grow-at t) grow.Post
-grow-returns-3 t c = grow-leaf (c .before .before .before .before .before .before .before .before .before .before .before .before .before
-    .pre .1) (written t (c .before .before)) (c .if1 .taken)
+grow-returns-3 t c =
+    let w = c .before .before in
+    let s = w .before .before .before .before .before .before .before .before .before .before .before in
+    (grow-leaf (s .pre .1 .0) (written t w) (c .if1 .taken), lists-kept-same (s .pre .1 .1 .sized))
 
-grow-count-extensions-requires : (t : ℕ) → grow-lts.Need-count-extensions-requires (grow-claims t) (grow-at t) grow.Post
-grow-count-extensions-requires t c κs =
-    let s = c .before .before .before .before .before .before .before .before .before .before .before .before .before .before .before .before in (
-      record { alphabet = s .args .alphabet .now; prepared = s .pre .1 .set-up .prepared },
-      grow-counts (s .pre .1) (written t (c .before .before .before .before .before)) (c .before .before .before .if1 .left),
-      s .pre .1 .at-hand .blank,
+grow-count-next-requires : (t : ℕ) → grow-lts.Need-count-next-requires (grow-claims t) (grow-at t) grow.Post
+grow-count-next-requires t c κs =
+    let e = c .before .before .before .before .before in
+    let w = e .before .before in
+    let s = w .before .before .before .before .before .before .before .before .before .before .before in (
+      record { alphabet = s .args .alphabet .now; prepared = s .pre .1 .0 .set-up .prepared },
+      s .pre .1 .0 .at-hand .blank,
+      record {
+        accepted = s .pre .1 .0 .set-up .prepared .accepted;
+        tables = s .pre .1 .0 .set-up .prepared .tables;
+        can = grow-counts (s .pre .1 .0) (written t w) (e .if1 .left);
+        sized = s .pre .1 .1 .sized;
+        below = s .pre .1 .1 .below;
+      },
     )
 
 grow-choose-requires : (t : ℕ) → grow-lts.Need-choose-requires (grow-claims t) (grow-at t) grow.Post
 grow-choose-requires t c κs =
-    grow-chooses (c .before .before .before .before .before .before .before .before .before .before .before .before .before .before .before
-    .before .before .before .before .before .pre .1) (written t (c .before .before .before .before .before .before .before .before .before))
-    (c .before .before .before .before .before .before .before .if1 .left) (c .before .before .before .count-extensions .ensures)
+    let n = c .before .before .before in
+    let e = n .before .before .before .before .before .before in
+    let w = e .before .before in
+    let s = w .before .before .before .before .before .before .before .before .before .before .before in
+    grow-chooses (s .pre .1 .0) (written t w) (e .if1 .left) (n .count-next .ensures .0)
 
 grow-add-walk : (t : ℕ) → grow-lts.Need-add-walk (grow-claims t) (grow-at t) grow.Post
-grow-add-walk t c = omega (
-  arith,
-  written t (c .before .before .before .before .before .before .before .before .before .before .before
-      .before .before .before) .low,
-)
+grow-add-walk t c =
+    let e = c .before .before .before .before .before .before .before .before .before .before .before .before .before .before .before .before in
+    omega (arith, written t (e .before .before) .low)
 
 grow-walk-requires : (t : ℕ) → grow-lts.Need-walk-requires (grow-claims t) (grow-at t) grow.Post
 grow-walk-requires t c κs =
-    let s = c .before .before .before .before .before .before .before .before .before .before .before .before .before .before .before
-    .before .before .before .before .before .before .before .before .before .before in (
-      omega (
-        arith,
-        s .pre .0,
-        s .pre .1 .most,
-        c .before .before .before .before .before .before .before .before .before .before .before
-            .before .if1 .left,
+    let h = c .before .before .before .before .before .before in
+    let n = h .before .before .before .before in
+    let e = n .before .before .before .before .before .before in
+    let w = e .before .before in
+    let s = w .before .before .before .before .before .before .before .before .before .before .before in (
+      omega (arith, s .pre .0, s .pre .1 .0 .most, e .if1 .left),
+      (
+        grow-walks (s .pre .1 .0) (written t w) (e .if1 .left) (n .count-next .ensures .0) (h .choose .ensures),
+        lists-made (n .count-next .ensures .1),
       ),
-      grow-walks (s .pre .1) (written t (c .before .before .before .before .before .before .before .before .before .before .before .before
-          .before .before)) (c .before .before .before .before .before .before .before .before .before .before .before .before .if1 .left)
-          (c .before .before .before .before .before .before .before .before .count-extensions .ensures)
-          (c .before .before .before .before .choose .ensures),
     )
 
 grow-returns-4 : (t : ℕ) → grow-lts.Need-returns-4 (grow-claims t) (grow-at t) grow.Post
 grow-returns-4 t c =
-    grow-went (c .before .before .before .before .before .before .before .before .before .before .before .before .before .before .before
-    .before .before .before .before .before .before .before .before .before .before .before .before .before .pre .1)
-    (written t (c .before .before .before .before .before .before .before .before .before .before .before .before .before .before .before
-    .before .before)) (c .before .before .before .before .before .before .before .before .before .before .before .before .before .before
-    .before .if1 .left) (c .before .before .before .before .before .before .before .before .before .before .before .count-extensions
-    .ensures) (c .before .before .before .before .before .before .before .choose .ensures)
-    (c .before .before .walk .ensures)
+    let v = c .before .before in
+    let h = v .before .before .before .before .before .before .before in
+    let n = h .before .before .before .before in
+    let e = n .before .before .before .before .before .before in
+    let w = e .before .before in
+    let s = w .before .before .before .before .before .before .before .before .before .before .before in (
+      grow-went (s .pre .1 .0) (written t w) (e .if1 .left) (n .count-next .ensures .0) (h .choose .ensures) (v .walk .ensures .0),
+      lists-walked (s .pre .1 .0 .some) (n .count-next .ensures .1) (v .walk .ensures .1),
+    )
 
 grow-same-length-4 : (t : ℕ) → grow-lts.Need-same-length-4 (grow-claims t) (grow-at t) grow.Post
-grow-same-length-4 t c = grow-returns-4 t c .size
+grow-same-length-4 t c = grow-returns-4 t c .0 .size
 
 abbrev walk-Inv-loop : walk-lts.InvT-loop
-walk-Inv-loop survey labels rank alphabet settings held kind cells₀ seen₀ list₀ from top output₀ count bytes cables kinds devices n written₀
-    k₀ cells seen list output written k =
+walk-Inv-loop survey labels rank alphabet settings held kind cells₀ seen₀ list₀ from top listed kept₀ ends₀ output₀ count bytes cables kinds devices n
+    written₀ k₀ cells seen list kept ends output written k =
     On-the-way survey alphabet settings kind (records-of held) list₀ from top output₀ count k cells seen list output written
+    × Lists-kept (held .code .count + 1) kept₀ ends₀ kept ends
 
 abbrev walk-μ-loop : walk-lts.MeasureT-loop
-walk-μ-loop survey labels rank alphabet settings held kind cells₀ seen₀ list₀ from top output₀ count bytes cables kinds devices n written₀
-    k₀ cells seen list output written k =
+walk-μ-loop survey labels rank alphabet settings held kind cells₀ seen₀ list₀ from top listed kept₀ ends₀ output₀ count bytes cables kinds devices n
+    written₀ k₀ cells seen list kept ends output written k =
     top - k
 
 walk-loop-holds : (t : ℕ) → walk-lts.Need-loop-holds (walk-claims t) (walk-at t) walk.Post walk-Inv-loop walk-μ-loop
-walk-loop-holds t c = walk-starts (c .before .before .before .before .before .pre .1)
+walk-loop-holds t c =
+    let p = c .before .before .before .before .before .pre .1 in
+    (walk-starts (p .0), lists-kept-same (p .1 .sized))
 
 walk-mul-candidate : (t : ℕ) → walk-lts.Need-mul-candidate (walk-claims t) (walk-at t) walk.Post walk-Inv-loop walk-μ-loop
 walk-mul-candidate t c = search needs
@@ -234,16 +251,16 @@ wide t c = search needs
 
 walk-next-record-requires : (t : ℕ) → walk-lts.Need-next-record-requires (walk-claims t) (walk-at t) walk.Post walk-Inv-loop walk-μ-loop
 walk-next-record-requires t c κs =
-    let s = c .before .before .before .before .before .before .before .before .before in
+    let i = c .before .before in
+    let l = i .before .loop in
+    let s = i .before .before .before .before .before .before .before in
     record {
       wide = wide t s;
       held-by = s .args .held;
       kinds-are = refl;
       devices-are = refl;
       rank = s .args .rank .now;
-      can-read = walk-reads (c .before .before .before .before .before .before .before .before .before .pre .1)
-          (c .before .before .before .loop .k) (c .before .before .before .loop .inv .low) (c .before .before .loop-test .taken) _
-          (c .before .before .before .loop .inv .kept .below (c .before .before .before .loop .k) (c .before .before .loop-test .taken));
+      can-read = walk-reads (s .pre .1 .0) (l .k) (l .inv .0 .low) (i .loop-test .taken) _ (l .inv .0 .kept .below (l .k) (i .loop-test .taken));
     }
 
 -- the record at the candidate's place
@@ -255,27 +272,27 @@ told :
     ≡ record-at (basis (s .args .kind) (records-of (s .args .held))) (s .args .alphabet .now) (s .args .settings .labels)
     (getD (l .list) (l .k) 0 / (2 ^ 40))
 told t c =
-    let s = c .before .before .before .before .before .before .before .before .before .before in
+    let i = c .before .before .before in
+    let l = i .before .loop in
+    let s = i .before .before .before .before .before .before .before in
     c .next-record .ensures .told (s .args .held) refl refl (s .args .rank .now)
-    (walk-reads (c .before .before .before .before .before .before .before .before .before .before .pre .1)
-    (c .before .before .before .before .loop .k) (c .before .before .before .before .loop .inv .low)
-    (c .before .before .before .loop-test .taken) _ (c .before .before .before .before .loop .inv .kept .below
-    (c .before .before .before .before .loop .k) (c .before .before .before .loop-test .taken)))
+    (walk-reads (s .pre .1 .0) (l .k) (l .inv .0 .low) (i .loop-test .taken) _ (l .inv .0 .kept .below (l .k) (i .loop-test .taken)))
 
 walk-hopeless-requires : (t : ℕ) → walk-lts.Need-hopeless-requires (walk-claims t) (walk-at t) walk.Post walk-Inv-loop walk-μ-loop
-walk-hopeless-requires t c κs = walk-looks (c .before .before .before .before .before .before .before .before .before .before .before .pre
-    .1) (c .before .before .before .before .before .loop .k) (c .before .before .before .before .before .loop .inv .low)
-    (c .before .before .before .before .loop-test .taken) _ (c .before .before .before .before .before .loop .inv .kept .below
-    (c .before .before .before .before .before .loop .k) (c .before .before .before .before .loop-test .taken)) _ (told t (c .before))
+walk-hopeless-requires t c κs =
+    let i = c .before .before .before .before in
+    let l = i .before .loop in
+    let s = i .before .before .before .before .before .before .before in
+    walk-looks (s .pre .1 .0) (l .k) (l .inv .0 .low) (i .loop-test .taken) _ (l .inv .0 .kept .below (l .k) (i .loop-test .taken)) _
+    (told t (c .before))
 
 walk-grown-requires : (t : ℕ) → walk-lts.Need-grown-requires (walk-claims t) (walk-at t) walk.Post walk-Inv-loop walk-μ-loop
-walk-grown-requires t c κs = walk-grows (c .before .before .before .before .before .before .before .before .before .before .before .before
-    .before .pre .1) (c .before .before .before .before .before .before .before .loop .k)
-    (c .before .before .before .before .before .before .before .loop .inv .low)
-    (c .before .before .before .before .before .before .loop-test .taken) _
-    (c .before .before .before .before .before .before .before .loop .inv .kept .below
-    (c .before .before .before .before .before .before .before .loop .k)
-    (c .before .before .before .before .before .before .loop-test .taken)) _ (told t (c .before .before .before))
+walk-grown-requires t c κs =
+    let i = c .before .before .before .before .before .before in
+    let l = i .before .loop in
+    let s = i .before .before .before .before .before .before .before in
+    walk-grows (s .pre .1 .0) (l .k) (l .inv .0 .low) (i .loop-test .taken) _ (l .inv .0 .kept .below (l .k) (i .loop-test .taken)) _
+    (told t (c .before .before .before))
 
 -- the code grown by it
 turn :
@@ -286,24 +303,28 @@ turn :
     (record-at (basis (s .args .kind) (records-of (s .args .held))) (s .args .alphabet .now) (s .args .settings .labels)
     (getD (l .list) (l .k) 0 / (2 ^ 40)))
     (c .grown .result)
-turn t c = subst (λ (e : Rec). Grows (c .before .before .before .before .before .before .before .before .before .before .before .before
-    .before .before .args .held) e (c .grown .result)) (told t (c .before .before .before .before)) (c .grown .ensures)
+turn t c =
+    let s = c .before .before .before .before .before .before .before .before .before .before .before .before .before .before in
+    subst (λ (e : Rec). Grows (s .args .held) e (c .grown .result)) (told t (c .before .before .before .before)) (c .grown .ensures)
+
+-- the look ahead said no
+hoped : {code : List ℕ} {m : ℕ} {e : Rec} {b : Bool} → not b ≡ true → Hopeless-if code m e b → Hopeless-if code m e false
+hoped {b = true} n l = absurd (false≢true n)
+hoped {b = false} n l = l
 
 walk-grow-requires : (t : ℕ) → walk-lts.Need-grow-requires (walk-claims t) (walk-at t) walk.Post walk-Inv-loop walk-μ-loop
 walk-grow-requires t c κs =
-    let s = c .before .before .before .before .before .before .before .before .before .before .before .before .before .before .before
-    .before .before .before in
-    let r = turn t (c .before .before .before .before) in (
-      omega (arith, s .pre .0, s .pre .1 .more, r .count),
-      walk-grows-on
-          (c .before .before .before .before .before .before .before .before .before .before .before .before .before .before .before .before
-          .before .before .pre .1) (c .before .before .before .before .before .before .before .before .before .before .before .before .loop .k)
-          (c .before .before .before .before .before .before .before .before .before .before .before .before .loop .inv .low)
-          (c .before .before .before .before .before .before .before .before .before .before .before .loop-test .taken) _
-          (c .before .before .before .before .before .before .before .before .before .before .before .before .loop .inv .kept .below
-          (c .before .before .before .before .before .before .before .before .before .before .before .before .loop .k)
-          (c .before .before .before .before .before .before .before .before .before .before .before .loop-test .taken)) r
-          (c .before .before .before .before .before .before .before .before .before .before .before .before .loop .inv),
+    let g = c .before .before .before .before .before .before in
+    let i = g .before .before .before .before .before .before .before in
+    let l = i .before .loop in
+    let s = i .before .before .before .before .before .before .before in
+    let r = turn t g in (
+      omega (arith, s .pre .0, s .pre .1 .0 .more, r .count),
+      (
+        walk-grows-on (s .pre .1 .0) (l .k) (l .inv .0 .low) (i .loop-test .taken) _ (l .inv .0 .kept .below (l .k) (i .loop-test .taken)) r _
+            (told t (g .before .before .before .before)) (hoped (g .before .if1 .taken) (g .before .before .hopeless .ensures)) (l .inv .0),
+        lists-grow (s .pre .1 .0 .set-up) r (s .pre .1 .1) (l .inv .1),
+      ),
     )
 
 walk-enum-known-more : (t : ℕ) → walk-lts.Need-enum-known-more (walk-claims t) (walk-at t) walk.Post walk-Inv-loop walk-μ-loop
@@ -313,30 +334,29 @@ walk-enum-told : (t : ℕ) → walk-lts.Need-enum-told (walk-claims t) (walk-at 
 walk-enum-told t c = search needs
 
 walk-same-length : (t : ℕ) → walk-lts.Need-same-length (walk-claims t) (walk-at t) walk.Post walk-Inv-loop walk-μ-loop
-walk-same-length t c = c .before .before .before .before .grow .ensures .size
-    ∙ c .before .before .before .before .before .before .before .before .before .before .before .before .before .before .before .before
-    .before .loop .inv .size
+walk-same-length t c =
+    let w = c .before .before .before .before in
+    let i = w .before .before .before .before .before .before .before .before .before .before .before .before .before .before in
+    w .grow .ensures .0 .size ∙ i .before .loop .inv .0 .size
 
 walk-returns : (t : ℕ) → walk-lts.Need-returns (walk-claims t) (walk-at t) walk.Post walk-Inv-loop walk-μ-loop
 walk-returns t c =
-    walk-full (c .before .before .before .before .before .before .before .before .before .before .before .before .before .before .before
-    .before .before .before .before .before .before .before .before .pre .1)
-    (c .before .before .before .before .before .before .before .before .before .before .before .before .before .before .before .before
-    .before .loop .k) (c .before .before .before .before .before .before .before .before .before .before .before .before .before .before
-    .before .before .before .loop .inv .low) (c .before .before .before .before .before .before .before .before .before .before .before
-    .before .before .before .before .before .loop-test .taken) _
-    (c .before .before .before .before .before .before .before .before .before .before .before .before .before .before .before .before
-    .before .loop .inv .kept .below (c .before .before .before .before .before .before .before .before .before .before .before .before
-    .before .before .before .before .before .loop .k) (c .before .before .before .before .before .before .before .before .before .before
-    .before .before .before .before .before .before .loop-test .taken))
-    (turn t (c .before .before .before .before .before .before .before .before .before))
-    (c .before .before .before .before .before .before .before .before .before .before .before .before .before .before .before .before
-    .before .loop .inv) (rw (c .enum-told .given .1) at (c .before .before .before .before .grow .ensures))
+    let w = c .before .before .before .before in
+    let g = w .before .before .before .before .before .before .before in
+    let i = g .before .before .before .before .before .before .before in
+    let l = i .before .loop in
+    let s = i .before .before .before .before .before .before .before in
+    let r = turn t g in (
+      walk-full (s .pre .1 .0) (l .k) (l .inv .0 .low) (i .loop-test .taken) _ (l .inv .0 .kept .below (l .k) (i .loop-test .taken)) r (l .inv .0)
+          (rw (c .enum-told .given .1) at (w .grow .ensures .0)),
+      lists-after (s .pre .1 .0 .set-up) r (s .pre .1 .1) (l .inv .1) (w .grow .ensures .1),
+    )
 
 walk-add-k : (t : ℕ) → walk-lts.Need-add-k (walk-claims t) (walk-at t) walk.Post walk-Inv-loop walk-μ-loop
 walk-add-k t c =
-    let a = c .before .before .before .before .before .before .before .before .before .before .before .before .before .pre .1 in
-    omega (arith, c .before .before .before .before .before .before .loop-test .taken, a .at-hand .room, a .more, a .set-up .small)
+    let i = c .before .before .before .before .before .before in
+    let a = i .before .before .before .before .before .before .before .pre .1 .0 in
+    omega (arith, i .loop-test .taken, a .at-hand .room, a .more, a .set-up .small)
 
 walk-loop-less : (t : ℕ) → walk-lts.Need-loop-less (walk-claims t) (walk-at t) walk.Post walk-Inv-loop walk-μ-loop
 walk-loop-less t c = search needs
@@ -348,33 +368,33 @@ said false e = absurd (true≢false e)
 
 walk-loop-again : (t : ℕ) → walk-lts.Need-loop-again (walk-claims t) (walk-at t) walk.Post walk-Inv-loop walk-μ-loop
 walk-loop-again t c =
-    let s = c .before .before .before .before .before .before .before .before .before .before .before .before .before in
-    let l = c .before .before .before .before .before .before .before .loop in
+    let i = c .before .before .before .before .before .before in
+    let l = i .before .loop in
+    let s = i .before .before .before .before .before .before .before in
     ⊎-elim
-    (λ w. rw (w .12, w .13, w .14, w .15, w .16) (walk-next (c .before .before .before .before .before .before .before .before .before
-    .before .before .before .before .pre .1) (c .before .before .before .before .before .before .before .loop .k)
-    (c .before .before .before .before .before .before .before .loop .inv .low)
-    (c .before .before .before .before .before .before .loop-test .taken) _
-    (c .before .before .before .before .before .before .before .loop .inv .kept .below
-    (c .before .before .before .before .before .before .before .loop .k) (c .before .before .before .before .before .before .loop-test .taken))
-    (subst (λ (e : Rec). Grows (s .args .held) e (w .1 .result)) (told t (c .before .before .before)) (w .1 .ensures)) (l .inv)
-    (rw (w .10 .given .1) at (w .6 .ensures))))
-    (λ w. rw (w .1, w .2, w .3, w .4, w .5) (walk-passed (c .before .before .before .before .before .before .before .before .before .before
-    .before .before .before .pre .1) (c .before .before .before .before .before .before .before .loop .k)
-    (c .before .before .before .before .before .before .before .loop .inv .low)
-    (c .before .before .before .before .before .before .loop-test .taken) _
-    (c .before .before .before .before .before .before .before .loop .inv .kept .below
-    (c .before .before .before .before .before .before .before .loop .k)
-    (c .before .before .before .before .before .before .loop-test .taken)) _ (told t (c .before .before .before))
-    (c .before .hopeless .ensures .not-least (said (c .before .hopeless .result) (w .0 .left))) (l .inv)))
+    (λ w.
+    let r = subst (λ (e : Rec). Grows (s .args .held) e (w .1 .result)) (told t (c .before .before .before)) (w .1 .ensures) in
+    rw (w .14, w .15, w .16, w .17, w .18, w .19, w .20) (
+      walk-next (s .pre .1 .0) (l .k) (l .inv .0 .low) (i .loop-test .taken) _ (l .inv .0 .kept .below (l .k) (i .loop-test .taken)) r (l .inv .0)
+          (rw (w .12 .given .1) at (w .8 .ensures .0)),
+      lists-after (s .pre .1 .0 .set-up) r (s .pre .1 .1) (l .inv .1) (w .8 .ensures .1),
+    ))
+    (λ w.
+    rw (w .1, w .2, w .3, w .4, w .5, w .6, w .7) (
+      walk-passed (s .pre .1 .0) (l .k) (l .inv .0 .low) (i .loop-test .taken) _ (l .inv .0 .kept .below (l .k) (i .loop-test .taken)) _
+          (told t (c .before .before .before))
+          (c .before .hopeless .ensures .not-least (said (c .before .hopeless .result) (w .0 .left))) (l .inv .0),
+      l .inv .1,
+    ))
     (c .if1 .came)
 
 walk-same-length-2 : (t : ℕ) → walk-lts.Need-same-length-2 (walk-claims t) (walk-at t) walk.Post walk-Inv-loop walk-μ-loop
 walk-same-length-2 t c = search needs
 
 walk-returns-2 : (t : ℕ) → walk-lts.Need-returns-2 (walk-claims t) (walk-at t) walk.Post walk-Inv-loop walk-μ-loop
-walk-returns-2 t c = walk-ends (c .before .before .before .before .before .before .before .pre .1) (omega (arith, c .loop-test .left))
-    (c .before .loop .inv)
+walk-returns-2 t c =
+    let l = c .before .loop in
+    (walk-ends (c .before .before .before .before .before .before .before .pre .1 .0) (omega (arith, c .loop-test .left)) (l .inv .0), l .inv .1)
 
 pub +grow+walk-spec : {M : Type 1} → statement M
 +grow+walk-spec = close μ-grow μ-walk (λ t. grow-lts.spec (grow-claims t)
@@ -388,10 +408,10 @@ pub +grow+walk-spec : {M : Type 1} → statement M
     (grow-same-length-2 t)
     (grow-returns-2 t)
     (grow-enum-told-3 t)
-    (grow-add-t25 t)
+    (grow-add-t28 t)
     (grow-same-length-3 t)
     (grow-returns-3 t)
-    (grow-count-extensions-requires t)
+    (grow-count-next-requires t)
     (grow-choose-requires t)
     (grow-add-walk t)
     (grow-walk-requires t)

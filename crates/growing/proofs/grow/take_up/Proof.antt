@@ -9,12 +9,12 @@ use Rattle.growing.proofs.grow.take_up.Statement.{statement}
 use Rattle.growing.proofs.grow.take_up.Tie as tie
 use Rattle.growing.proofs.grow.take_up.Reads as reads
 use Rattle.growing.proofs.grow.take_up.Lts as lts
-use Rattle.least_test.proofs.better.least_accepted.Reads as least-accepted-reads
+use Rattle.least_test.proofs.grown.least_grown.Reads as least-grown-reads
 use Rattle.candidates.proofs.entry.put_entry.Reads as put-entry-reads
 use Rattle.records.proofs.entry.Entry.new.Reads as new-reads
 
-least-accepted-requires : tie.Need-least-accepted-requires
-least-accepted-requires c κs = search needs
+least-grown-requires : tie.Need-least-grown-requires
+least-grown-requires c κs = search needs
 
 -- what is denied is not so, and what is not denied is
 denied : (b : Bool) → not b ≡ true → b ≡ false
@@ -27,7 +27,7 @@ allowed false e = absurd (true≢false e)
 
 returns : tie.Need-returns
 returns c =
-    let v = c .before .least-accepted in
+    let v = c .before .least-grown in
     record { not-least = v .ensures .fails (denied (v .result) (c .if1 .taken)); same = refl }
 
 mul-if2 : tie.Need-mul-if2
@@ -38,7 +38,7 @@ sub-if2 c = search needs
 
 returns-2 : tie.Need-returns-2
 returns-2 c =
-    let v = c .before .before .least-accepted in
+    let v = c .before .before .least-grown in
     record { least = v .ensures .holds (allowed (v .result) (c .before .if1 .left)); short = omega (arith, c .if2 .taken); same = refl }
 
 new-requires : tie.Need-new-requires
@@ -58,7 +58,7 @@ slice-low c = search needs
 returns-3 : tie.Need-returns-3
 returns-3 c =
     let full = c .before .before .before .before .before in
-    let v = full .before .before .least-accepted in
+    let v = full .before .before .least-grown in
     record {
       least = v .ensures .holds (allowed (v .result) (full .before .if1 .left));
       room = omega (arith, full .if2 .left, full .before .before .before .before .pre .out-room);
@@ -70,7 +70,7 @@ pub take-up-spec : {M : Type 1} → statement M
 take-up-spec =
     tie.close
     (tie.spec
-    least-accepted-requires
+    least-grown-requires
     returns
     mul-if2
     sub-if2

@@ -48,14 +48,14 @@ use Rattle.least_code.proofs.search.+search_below.{statement}
 use Rattle.least_code.proofs.search.+search_below.Tie.{close}
 
 -- the unlisted cables
-abbrev μ-self : Measures 2 kinds.ps ℕ
-μ-self κs a = a .1 .1 .0 - a .1 .1 .1 .0
+abbrev μ-self : Measures 3 kinds.ps ℕ
+μ-self κs a = a .1 .1 .1 .0 - a .1 .1 .1 .1 .0
 
-abbrev self-at : ℕ → In 2 kinds.ps
-self-at t = and 2 kinds.ps (is 2 kinds.ps μ-self t) reads.Pre
+abbrev self-at : ℕ → In 3 kinds.ps
+self-at t = and 3 kinds.ps (is 3 kinds.ps μ-self t) reads.Pre
 
-abbrev self-below : ℕ → In 2 kinds.ps
-self-below t = and 2 kinds.ps (falls 2 kinds.ps _<_ μ-self t) reads.Pre
+abbrev self-below : ℕ → In 3 kinds.ps
+self-below t = and 3 kinds.ps (falls 3 kinds.ps _<_ μ-self t) reads.Pre
 
 abbrev claims : ℕ → lts.Claims
 claims t = (
@@ -76,33 +76,33 @@ claims t = (
 )
 
 abbrev Inv-loop : lts.InvT-loop
-Inv-loop drawing table m t branch found least₀ way₀ least way =
+Inv-loop drawing table twins m t branch found least₀ way₀ least way =
     (way ≤ 10)
     × (way < 10 → Way table (state-of branch) found way)
     × Ties kinds-before kinds-order (drawing-in drawing) (rows-to (t + 1) least₀) (held-records least₀) (held-records least)
     (Led-below table (state-of branch) found way)
 
 abbrev μ-loop : lts.MeasureT-loop
-μ-loop drawing table m t branch found least₀ way₀ least way = 10 - way
+μ-loop drawing table twins m t branch found least₀ way₀ least way = 10 - way
 
 returns : (t : ℕ) → lts.Need-returns (claims t) (self-at t) reads.Post Inv-loop μ-loop
 returns t c =
     let s = c .before .before in
-    search-end (s .args .t) (s .args .best) (s .pre .1) (c .if1 .taken)
+    search-end (s .args .t) (s .args .best) (s .pre .1 .0) (c .if1 .taken)
 
 least-extension-requires : (t : ℕ) → lts.Need-least-extension-requires (claims t) (self-at t) reads.Post Inv-loop μ-loop
 least-extension-requires t c κs =
-    search-bounds (c .before .before .pre .1)
+    search-bounds (c .before .before .pre .1 .0)
 
 next-record-requires : (t : ℕ) → lts.Need-next-record-requires (claims t) (self-at t) reads.Post Inv-loop μ-loop
 next-record-requires t c κs =
     let s = c .before .before .before in
-    makes-record (s .pre .1) (c .least-extension .result) (c .least-extension .ensures)
+    makes-record (s .pre .1 .0) (c .least-extension .result) (c .least-extension .ensures)
 
 order-at-requires : (t : ℕ) → lts.Need-order-at-requires (claims t) (self-at t) reads.Post Inv-loop μ-loop
 order-at-requires t c κs =
     let s = c .before .before .before .before in
-    best-counts (s .args .t) (s .args .best) (s .pre .1)
+    best-counts (s .args .t) (s .args .best) (s .pre .1 .0)
 
 enum-told : (t : ℕ) → lts.Need-enum-told (claims t) (self-at t) reads.Post Inv-loop μ-loop
 enum-told t c = search needs
@@ -117,7 +117,7 @@ met-at :
 met-at t o =
     let l = o .before .before in
     record {
-      from = l .before .before .before .pre .1;
+      from = l .before .before .before .pre .1 .0;
       more = l .before .if1 .left;
       found = l .least-extension .ensures;
       is = o .before .next-record .ensures;
@@ -130,7 +130,7 @@ returns-2 t c = met-left (met-at t (c .before .before)) (c .enum-told .given .1)
 chosen-requires : (t : ℕ) → lts.Need-chosen-requires (claims t) (self-at t) reads.Post Inv-loop μ-loop
 chosen-requires t c κs =
     let s = c .before .before .before .before .before .before in
-    let h = cable-left (s .args .t) (s .args .best) (s .pre .1) (c .before .before .before .before .if1 .left) in
+    let h = cable-left (s .args .t) (s .args .best) (s .pre .1 .0) (c .before .before .before .before .if1 .left) in
     omega (arith, h)
 
 -- what is chosen
@@ -147,7 +147,7 @@ chosen-at t p =
     (p .chosen .result) (p .chosen .ensures)
 
 next-way-requires : (t : ℕ) → lts.Need-next-way-requires (claims t) (self-at t) reads.Post Inv-loop μ-loop
-next-way-requires t c κs = chosen-finds (chosen-at t c)
+next-way-requires t c κs = (chosen-finds (chosen-at t c), c .before .before .before .before .before .before .before .pre .1 .1)
 
 loop-holds : (t : ℕ) → lts.Need-loop-holds (claims t) (self-at t) reads.Post Inv-loop μ-loop
 loop-holds t c =
@@ -172,14 +172,21 @@ search-below-requires t c κs =
     let z = chosen-at t p in
     let i = l .loop .inv in (
       omega (arith, p .before .before .before .before .before .before .before .pre .0, chosen-left z),
-      way-call z (l .loop .least) (l .loop .way) (i .2) (i .1 (c .before .loop-test .taken)) _ (c .follow .ensures),
+      (
+        way-call z (l .loop .least) (l .loop .way) (i .2) (i .1 (c .before .loop-test .taken)) _ (c .follow .ensures),
+        (
+            p .before .before .before .before .before .before .before .pre .1 .1
+            ),
+      ),
     )
 
 add-next-way : (t : ℕ) → lts.Need-add-next-way (claims t) (self-at t) reads.Post Inv-loop μ-loop
 add-next-way t c = omega (arith, c .before .before .loop-test .taken)
 
 next-way-requires-2 : (t : ℕ) → lts.Need-next-way-requires-2 (claims t) (self-at t) reads.Post Inv-loop μ-loop
-next-way-requires-2 t c κs = chosen-finds (chosen-at t (c .before .before .before .before .before))
+next-way-requires-2 t c κs =
+    let p = c .before .before .before .before .before in
+    (chosen-finds (chosen-at t p), p .before .before .before .before .before .before .before .pre .1 .1)
 
 loop-less : (t : ℕ) → lts.Need-loop-less (claims t) (self-at t) reads.Post Inv-loop μ-loop
 loop-less t c =

@@ -24,10 +24,10 @@ use Rattle.least_code.proofs.search.least_code.Statement.{statement}
 use Rattle.least_code.proofs.search.least_code.Tie as tie
 
 abbrev Inv-loop : tie.InvT-loop
-Inv-loop drawing m table best₀ c₀ best c = (c ≤ m) × Starts (drawing-in drawing) (held-records best) (Seen-before drawing c)
+Inv-loop drawing m table twins best₀ c₀ best c = (c ≤ m) × Starts (drawing-in drawing) (held-records best) (Seen-before drawing c)
 
 abbrev μ-loop : tie.MeasureT-loop
-μ-loop drawing m table best₀ c₀ best c = m - c
+μ-loop drawing m table twins best₀ c₀ best c = m - c
 
 labels-of-drawing-requires : tie.Need-labels-of-drawing-requires Inv-loop μ-loop
 labels-of-drawing-requires c κs = c .before .pre .0
@@ -46,60 +46,72 @@ given-at c =
       cables = accepted-parts bs (s .pre .0) .cable-count ∙ sym (s .pre .1);
     }
 
+twins-of-requires : tie.Need-twins-of-requires Inv-loop μ-loop
+twins-of-requires c κs = search needs
+
 new-requires : tie.Need-new-requires Inv-loop μ-loop
 new-requires c κs = search needs
 
 loop-holds : tie.Need-loop-holds Inv-loop μ-loop
-loop-holds c = (search needs, none-seen (given-at (c .before)) _ (no-record-yet (c .new .result) (c .new .ensures .records-none)))
+loop-holds c = (search needs, none-seen (given-at (c .before .before .before)) _ (no-record-yet (c .new .result) (c .new .ensures .records-none)))
 
 at-requires : tie.Need-at-requires Inv-loop μ-loop
 at-requires c κs = search needs
 
 start-requires : tie.Need-start-requires Inv-loop μ-loop
 start-requires c κs =
-    let a = c .before in
-    let l = a .before .before in
-    first-start (given-at (l .before .before)) (l .loop .c) (a .before .loop-test .taken) _ _ _ (a .at .ensures) _ (l .loop .inv .1)
+    let a = c .before .before in
+    let l = a .before .before in (
+      first-start (given-at (l .before .before .before .before)) (l .loop .c) (a .before .loop-test .taken) _ _ _ (a .at .ensures) _
+          (l .loop .inv .1),
+      l .before .before .twins-of .ensures,
+    )
 
 -- the cable is seen one way round
 half-seen :
     (c : tie.After-start Inv-loop μ-loop)
-    → Starts (drawing-in (c .before .before .before .before .before .before .before .before .args .drawing .now)) (held-records (c .start .result))
-    (Seen-half (c .before .before .before .before .before .before .before .before .args .drawing .now) (c .before .before .before .before .loop .c)
-    (c .before .before .at .result .a) (c .before .before .at .result .b) (c .before .before .at .result .kind))
+    → let a = c .before .before .before in
+    let bs = a .before .before .before .before .before .before .before .before .args .drawing .now in
+    Starts (drawing-in bs) (held-records (c .start .result))
+    (Seen-half bs (a .before .before .loop .c) (a .at .result .a) (a .at .result .b) (a .at .result .kind))
 half-seen c =
-    let a = c .before .before in
+    let a = c .before .before .before in
     let l = a .before .before in
-    first-seen (given-at (l .before .before)) (l .loop .c) (a .before .loop-test .taken) _ _ _ (a .at .ensures) _ (l .loop .inv .1) _
+    first-seen (given-at (l .before .before .before .before)) (l .loop .c) (a .before .loop-test .taken) _ _ _ (a .at .ensures) _ (l .loop .inv .1) _
     (c .start .ensures)
 
 start-requires-2 : tie.Need-start-requires-2 Inv-loop μ-loop
 start-requires-2 c κs =
-    let h = c .before in
-    let a = h .before .before in
-    let l = a .before .before in
-    second-start (given-at (l .before .before)) (l .loop .c) (a .before .loop-test .taken) _ _ _ (a .at .ensures) _ (half-seen h)
+    let h = c .before .before in
+    let a = h .before .before .before in
+    let l = a .before .before in (
+      second-start (given-at (l .before .before .before .before)) (l .loop .c) (a .before .loop-test .taken) _ _ _ (a .at .ensures) _ (half-seen h),
+      l .before .before .twins-of .ensures,
+    )
 
 add-c : tie.Need-add-c Inv-loop μ-loop
-add-c c = search needs
+add-c c =
+    let i = c .before .before .before .before .before .before .before in
+    let s = i .before .before .before .before .before .before .before in
+    omega (arith, i .loop-test .taken, s .fits .m)
 
 loop-less : tie.Need-loop-less Inv-loop μ-loop
 loop-less c = search needs
 
 loop-again : tie.Need-loop-again Inv-loop μ-loop
 loop-again c =
-    let h = c .before .before in
-    let a = h .before .before in
+    let h = c .before .before .before in
+    let a = h .before .before .before in
     let l = a .before .before in (
       search needs,
-      second-seen (given-at (l .before .before)) (l .loop .c) (a .before .loop-test .taken) _ _ _ (a .at .ensures) _ (half-seen h) _
+      second-seen (given-at (l .before .before .before .before)) (l .loop .c) (a .before .loop-test .taken) _ _ _ (a .at .ensures) _ (half-seen h) _
           (c .start2 .ensures),
     )
 
 returns : tie.Need-returns Inv-loop μ-loop
 returns c =
     let l = c .before in
-    all-seen (given-at (l .before .before)) _ (l .loop .c) (omega (arith, l .loop .inv .0, c .loop-test .left)) (l .loop .inv .1)
+    all-seen (given-at (l .before .before .before .before)) _ (l .loop .c) (omega (arith, l .loop .inv .0, c .loop-test .left)) (l .loop .inv .1)
 
 pub least-code-spec : {M : Type 1} → statement M
 least-code-spec =
@@ -108,6 +120,7 @@ least-code-spec =
     Inv-loop
     μ-loop
     labels-of-drawing-requires
+    twins-of-requires
     new-requires
     loop-holds
     at-requires

@@ -12,23 +12,23 @@ use Rattle.least_code.proofs.search.start.Statement.{statement}
 use Rattle.least_code.proofs.search.start.Tie as tie
 
 label-requires : tie.Need-label-requires
-label-requires c κs = start-low (c .before .pre)
+label-requires c κs = start-low (c .before .pre .0)
 
 kind-of-requires : tie.Need-kind-of-requires
 kind-of-requires c κs =
     let s = c .before .before in
-    (s .pre .given .accepted, start-ends (s .pre) .0)
+    (s .pre .0 .given .accepted, start-ends (s .pre .0) .0)
 
 cable-kind-requires : tie.Need-cable-kind-requires
-cable-kind-requires c κs = start-label (c .before .before .before .pre) _ (c .before .label .ensures)
+cable-kind-requires c κs = start-label (c .before .before .before .pre .0) _ (c .before .label .ensures)
 
 other-kind-requires : tie.Need-other-kind-requires
-other-kind-requires c κs = start-label (c .before .before .before .before .pre) _ (c .before .before .label .ensures) .0
+other-kind-requires c κs = start-label (c .before .before .before .before .pre .0) _ (c .before .before .label .ensures) .0
 
 order-at-requires : tie.Need-order-at-requires
 order-at-requires c κs =
     let s = c .before .before .before .before .before in
-    (omega arith, start-count (s .args .best) (s .pre))
+    (omega arith, start-count (s .args .best) (s .pre .0))
 
 -- the record is the cable's
 next-is :
@@ -39,7 +39,7 @@ next-is :
     (c .before .before .before .before .before .args .cable .b) (c .before .before .before .before .before .args .cable .kind)
 next-is c =
     let k = c .before .before in
-    start-record (k .before .before .before .pre) _ (k .before .label .ensures) _ _ _ (k .kind-of .ensures) (c .before .cable-kind .ensures)
+    start-record (k .before .before .before .pre .0) _ (k .before .label .ensures) _ _ _ (k .kind-of .ensures) (c .before .cable-kind .ensures)
     (c .other-kind .ensures)
 
 enum-told : tie.Need-enum-told
@@ -49,10 +49,10 @@ returns : tie.Need-returns
 returns c =
     let o = c .before .before in
     let s = o .before .before .before .before .before .before in
-    start-left (s .args .best) (s .pre) _ (next-is (o .before)) _ (o .order-at .ensures) (c .enum-told .given .1)
+    start-left (s .args .best) (s .pre .0) _ (next-is (o .before)) _ (o .order-at .ensures) (c .enum-told .given .1)
 
 first-requires : tie.Need-first-requires
-first-requires c κs = start-low (c .before .before .before .before .before .before .before .pre)
+first-requires c κs = start-low (c .before .before .before .before .before .before .before .pre .0)
 
 chosen-requires : tie.Need-chosen-requires
 chosen-requires c κs = search needs
@@ -60,17 +60,19 @@ chosen-requires c κs = search needs
 search-below-requires : tie.Need-search-below-requires
 search-below-requires c κs =
     let o = c .before .before .before in
-    let s = o .before .before .before .before .before .before in
-    start-call (s .args .best) (s .pre) _ (next-is (o .before)) _ (o .order-at .ensures)
-    (λ z. ⊎-elim (λ w. omega arith) (λ w. omega arith) (rw z at (c .before .before .match .keys2))) (c .chosen .result) (c .chosen .ensures) _
-    (c .before .first .ensures)
+    let s = o .before .before .before .before .before .before in (
+      start-call (s .args .best) (s .pre .0) _ (next-is (o .before)) _ (o .order-at .ensures)
+          (λ z. ⊎-elim (λ w. omega arith) (λ w. omega arith) (rw z at (c .before .before .match .keys2))) (c .chosen .result) (c .chosen .ensures) _
+          (c .before .first .ensures),
+      s .pre .1,
+    )
 
 returns-2 : tie.Need-returns-2
 returns-2 c =
     let h = c .before in
     let o = h .before .before .before in
     let s = o .before .before .before .before .before .before in
-    start-return (s .args .best) (s .pre) _ (next-is (o .before)) _ (o .order-at .ensures)
+    start-return (s .args .best) (s .pre .0) _ (next-is (o .before)) _ (o .order-at .ensures)
     (λ z. ⊎-elim (λ w. omega arith) (λ w. omega arith) (rw z at (h .before .before .match .keys2))) (h .chosen .result) (h .chosen .ensures) _
     (h .before .first .ensures) (c .search-below .result) (c .search-below .ensures)
 

@@ -25,6 +25,7 @@ use Rattle.least_seen.specs.Accepting.{
   device-placed,
   Chord-told,
   Free-label,
+  Counted-label,
   Lower,
   wanted-label,
   Test-goes-on,
@@ -35,6 +36,7 @@ use Rattle.least_seen.specs.AcceptedSteps.{
   not-taken,
   put-back,
   freed,
+  counted-free,
   wanted-label-some,
   Tried-way,
   goes-below,
@@ -57,6 +59,7 @@ use Rattle.least_seen.specs.AcceptedSteps.{
   edge-goes,
   edge-tells,
   tried-way,
+  twin-way,
   edge-way-none,
 }
 use Rattle.least_test.proofs.better.better.Reads as better
@@ -67,7 +70,7 @@ use Rattle.least_test.proofs.better.edge_better.Kinds as edge-better-ki
 use Rattle.least_test.proofs.better.+better+edge_better.Lts-edge_better as edge-better-lts
 use Rattle.least_seen.proofs.seen.chord_order.Reads as chord-order-reads
 use Rattle.least_seen.proofs.seen.device_at.Reads as device-at-reads
-use Rattle.least_seen.proofs.seen.free_label.Reads as free-label-reads
+use Rattle.least_seen.proofs.seen.counted_label.Reads as counted-label-reads
 use Rattle.least_seen.proofs.seen.is_lower.Reads as is-lower-reads
 use Rattle.least_seen.proofs.seen.place_of.Reads as place-of-reads
 use Rattle.least_seen.proofs.seen.some_before.Reads as some-before-reads
@@ -75,25 +78,25 @@ use Rattle.least_seen.proofs.seen.wanted_label.Reads as wanted-label-reads
 use Rattle.least_test.proofs.better.+better+edge_better.{statement}
 use Rattle.least_test.proofs.better.+better+edge_better.Tie.{close}
 
-abbrev μ-better : Measures 5 better-kinds.ps ℕ
-μ-better κs a = 2 * (a .1 .1 .0 - a .1 .1 .1 .1 .0) + 1
+abbrev μ-better : Measures 6 better-kinds.ps ℕ
+μ-better κs a = 2 * (a .1 .1 .1 .0 - a .1 .1 .1 .1 .1 .0) + 1
 
-abbrev μ-edge-better : Measures 5 edge-better-kinds.ps ℕ
-μ-edge-better κs a = 2 * (a .1 .1 .0 - a .1 .1 .1 .1 .0)
+abbrev μ-edge-better : Measures 6 edge-better-kinds.ps ℕ
+μ-edge-better κs a = 2 * (a .1 .1 .1 .0 - a .1 .1 .1 .1 .1 .0)
 
-abbrev better-at : ℕ → In 5 better-kinds.ps
-better-at t = and 5 better-kinds.ps (is 5 better-kinds.ps μ-better t) better.Pre
+abbrev better-at : ℕ → In 6 better-kinds.ps
+better-at t = and 6 better-kinds.ps (is 6 better-kinds.ps μ-better t) better.Pre
 
-abbrev better-below : ℕ → In 5 better-kinds.ps
-better-below t = and 5 better-kinds.ps (falls 5 better-kinds.ps _<_ μ-better t) better.Pre
+abbrev better-below : ℕ → In 6 better-kinds.ps
+better-below t = and 6 better-kinds.ps (falls 6 better-kinds.ps _<_ μ-better t) better.Pre
 
-abbrev edge-better-at : ℕ → In 5 edge-better-kinds.ps
+abbrev edge-better-at : ℕ → In 6 edge-better-kinds.ps
 edge-better-at t =
-    and 5 edge-better-kinds.ps (is 5 edge-better-kinds.ps μ-edge-better t) edge-better.Pre
+    and 6 edge-better-kinds.ps (is 6 edge-better-kinds.ps μ-edge-better t) edge-better.Pre
 
-abbrev edge-better-below : ℕ → In 5 edge-better-kinds.ps
+abbrev edge-better-below : ℕ → In 6 edge-better-kinds.ps
 edge-better-below t =
-    and 5 edge-better-kinds.ps (falls 5 edge-better-kinds.ps _<_ μ-edge-better t) edge-better.Pre
+    and 6 edge-better-kinds.ps (falls 6 edge-better-kinds.ps _<_ μ-edge-better t) edge-better.Pre
 
 abbrev better-claims : ℕ → better-lts.Claims
 better-claims t = (
@@ -115,7 +118,7 @@ more :
     → let a = c .before .before .args in
     a .t < a .m
 more t c =
-    let p = c .before .before .pre .1 in
+    let p = c .before .before .pre .1 .0 in
     omega (arith, p .follows .within, p .counted .records, c .if1 .left)
 
 slice-low : (t : ℕ) (c : better-lts.Else1 (better-claims t) (better-at t) better.Post) → length (c .before .before .args .code .now) < 2 ^ 64
@@ -145,7 +148,7 @@ told t c o e =
 better-returns :
     (t : ℕ) → better-lts.Need-returns (better-claims t) (better-at t) better.Post
 better-returns t c =
-    let p = c .before .before .pre .1 in (
+    let p = c .before .before .pre .1 .0 in (
       decides-false (follows-end (p .follows) (omega (arith, c .if1 .taken, p .counted .records))),
       untouched,
     )
@@ -153,32 +156,32 @@ better-returns t c =
 better-mul-i :
     (t : ℕ) → better-lts.Need-mul-i (better-claims t) (better-at t) better.Post
 better-mul-i t c =
-    omega (arith, goes-room (c .before .before .pre .1) (more t c), slice-low t c)
+    omega (arith, goes-room (c .before .before .pre .1 .0) (more t c), slice-low t c)
 
 better-shared-slice-read-i :
     (t : ℕ) → better-lts.Need-shared-slice-read-i (better-claims t) (better-at t) better.Post
-better-shared-slice-read-i t c = omega (arith, goes-room (c .before .before .before .pre .1) (more t (c .before)))
+better-shared-slice-read-i t c = omega (arith, goes-room (c .before .before .before .pre .1 .0) (more t (c .before)))
 
 better-mul-j :
     (t : ℕ) → better-lts.Need-mul-j (better-claims t) (better-at t) better.Post
 better-mul-j t c =
-    omega (arith, goes-room (c .before .before .before .pre .1) (more t (c .before)), slice-low t (c .before))
+    omega (arith, goes-room (c .before .before .before .pre .1 .0) (more t (c .before)), slice-low t (c .before))
 
 better-add-j :
     (t : ℕ) → better-lts.Need-add-j (better-claims t) (better-at t) better.Post
 better-add-j t c =
-    omega (arith, goes-room (c .before .before .before .pre .1) (more t (c .before)), slice-low t (c .before))
+    omega (arith, goes-room (c .before .before .before .pre .1 .0) (more t (c .before)), slice-low t (c .before))
 
 better-shared-slice-read-j :
     (t : ℕ) → better-lts.Need-shared-slice-read-j (better-claims t) (better-at t) better.Post
-better-shared-slice-read-j t c = omega (arith, goes-room (c .before .before .before .before .pre .1) (more t (c .before .before)))
+better-shared-slice-read-j t c = omega (arith, goes-room (c .before .before .before .before .pre .1 .0) (more t (c .before .before)))
 
 better-edge-better-requires :
     (t : ℕ) → better-lts.Need-edge-better-requires (better-claims t) (better-at t) better.Post
 better-edge-better-requires t c κs =
     let s = c .before .before .before .before .before .before .before .before in
     let h = more t (c .before .before .before .before .before .before) in
-    (omega (arith, s .pre .0), record { goes = s .pre .1; more = h; ahead = c .before .before .before .if2 .taken })
+    (omega (arith, s .pre .0), (record { goes = s .pre .1 .0; more = h; ahead = c .before .before .before .if2 .taken }, s .pre .1 .1))
 
 better-returns-2 :
     (t : ℕ) → better-lts.Need-returns-2 (better-claims t) (better-at t) better.Post
@@ -187,19 +190,19 @@ better-returns-2 t c = c .edge-better .ensures
 better-place-of-requires :
     (t : ℕ) → better-lts.Need-place-of-requires (better-claims t) (better-at t) better.Post
 better-place-of-requires t c κs =
-    let p = c .before .before .before .before .before .before .pre .1 in
+    let p = c .before .before .before .before .before .before .pre .1 .0 in
     (goes-count p, back-on-path p (more t (c .before .before .before .before)) (back t (c .before)))
 
 better-wanted-label-requires :
     (t : ℕ) → better-lts.Need-wanted-label-requires (better-claims t) (better-at t) better.Post
-better-wanted-label-requires t c κs = goes-room (c .before .before .before .before .before .before .before .before .before .pre .1)
+better-wanted-label-requires t c κs = goes-room (c .before .before .before .before .before .before .before .before .before .pre .1 .0)
     (more t (c .before .before .before .before .before .before .before))
 
 better-chord-order-requires :
     (t : ℕ) → better-lts.Need-chord-order-requires (better-claims t) (better-at t) better.Post
 better-chord-order-requires t c κs = (
   goes-places (c .before .before .before .before .before .before .before .before .before .before .pre
-      .1),
+      .1 .0),
   c .before .before .before .place-of .ensures .0,
 )
 
@@ -217,7 +220,7 @@ better-add-better t c =
     omega (
       arith,
       goes-room (c .before .before .before .before .before .before .before .before .before .before .before .before .before .pre
-          .1) (more t (c .before .before .before .before .before .before .before .before .before .before .before)),
+          .1 .0) (more t (c .before .before .before .before .before .before .before .before .before .before .before)),
       slice-low t
           (c .before .before .before .before .before .before .before .before .before .before .before),
     )
@@ -230,7 +233,7 @@ better-cast-better t c =
       arith,
       q .1,
       goes-places (c .before .before .before .before .before .before .before .before .before .before .before .before
-          .before .before .before .before .pre .1) .on-path _ (q .0),
+          .before .before .before .before .pre .1 .0) .on-path _ (q .0),
     )
 
 better-add-better-2 :
@@ -241,7 +244,7 @@ better-add-better-2 t c =
       arith,
       q .1,
       goes-places (c .before .before .before .before .before .before .before .before .before .before .before .before
-          .before .before .before .before .pre .1) .on-path _ (q .0),
+          .before .before .before .before .pre .1 .0) .on-path _ (q .0),
     )
 
 better-better-requires :
@@ -254,12 +257,15 @@ better-better-requires t c κs =
         more t
             (k .before .before .before .before .before .before .before .before .before),
       ),
-      chord-goes (k .before .before .before .before .before .before .before .before .before .before .before .pre .1)
-          (more t (k .before .before .before .before .before .before .before .before .before))
-          (back t (k .before .before .before .before .before .before)) (k .before .before .before .before .place-of .result)
-          (k .before .before .before .before .place-of .ensures .0)
-          (k .before .before .before .before .place-of .ensures .1) (k .before .wanted-label .ensures .1)
-          (told t k Equal (c .before .before .before .enum-told2 .given .1)),
+      (
+        chord-goes (k .before .before .before .before .before .before .before .before .before .before .before .pre .1 .0)
+            (more t (k .before .before .before .before .before .before .before .before .before))
+            (back t (k .before .before .before .before .before .before)) (k .before .before .before .before .place-of .result)
+            (k .before .before .before .before .place-of .ensures .0)
+            (k .before .before .before .before .place-of .ensures .1) (k .before .wanted-label .ensures .1)
+            (told t k Equal (c .before .before .before .enum-told2 .given .1)),
+        k .before .before .before .before .before .before .before .before .before .before .before .pre .1 .1,
+      ),
     )
 
 better-enum-told-3 :
@@ -270,7 +276,7 @@ better-returns-3 :
     (t : ℕ) → better-lts.Need-returns-3 (better-claims t) (better-at t) better.Post
 better-returns-3 t c =
     let k = c .before .before in (
-      decides-true (told-before (k .before .before .before .before .before .before .before .before .before .before .before .pre .1)
+      decides-true (told-before (k .before .before .before .before .before .before .before .before .before .before .before .pre .1 .0)
           (more t (k .before .before .before .before .before .before .before .before .before))
           (back t (k .before .before .before .before .before .before)) (k .before .before .before .before .place-of .result)
           (k .before .before .before .before .place-of .ensures .0)
@@ -284,12 +290,12 @@ better-returns-4 t c =
     let k = c .before .before .before .before .before .before in
     let o = told t k Equal (c .before .before .before .before .enum-told2 .given .1) in (
       record {
-        holds = λ e. chord-tells (k .before .before .before .before .before .before .before .before .before .before .before .pre .1)
+        holds = λ e. chord-tells (k .before .before .before .before .before .before .before .before .before .before .before .pre .1 .0)
             (more t (k .before .before .before .before .before .before .before .before .before))
             (back t (k .before .before .before .before .before .before)) (k .before .before .before .before .place-of .result)
             (k .before .before .before .before .place-of .ensures .0)
             (k .before .before .before .before .place-of .ensures .1) (k .before .wanted-label .ensures .1) o (c .better .ensures .0 .holds e);
-        fails = λ e. chord-ends (k .before .before .before .before .before .before .before .before .before .before .before .pre .1)
+        fails = λ e. chord-ends (k .before .before .before .before .before .before .before .before .before .before .before .pre .1 .0)
             (more t (k .before .before .before .before .before .before .before .before .before))
             (back t (k .before .before .before .before .before .before)) (k .before .before .before .before .place-of .result)
             (k .before .before .before .before .place-of .ensures .0)
@@ -302,7 +308,7 @@ better-returns-5 :
     (t : ℕ) → better-lts.Need-returns-5 (better-claims t) (better-at t) better.Post
 better-returns-5 t c =
     let k = c .before .before in (
-      decides-false (told-after (k .before .before .before .before .before .before .before .before .before .before .before .pre .1)
+      decides-false (told-after (k .before .before .before .before .before .before .before .before .before .before .before .pre .1 .0)
           (more t (k .before .before .before .before .before .before .before .before .before))
           (back t (k .before .before .before .before .before .before)) (k .before .before .before .before .place-of .result)
           (k .before .before .before .before .place-of .ensures .0)
@@ -320,8 +326,8 @@ edge-claims t = (
   some-before-reads.Learnt,
   device-at-reads.Asked,
   device-at-reads.Learnt,
-  free-label-reads.Asked,
-  free-label-reads.Learnt,
+  counted-label-reads.Asked,
+  counted-label-reads.Learnt,
   is-lower-reads.Asked,
   is-lower-reads.Learnt,
   better-below t,
@@ -329,12 +335,12 @@ edge-claims t = (
 )
 
 abbrev edge-better-Inv-loop : edge-better-lts.InvT-loop
-edge-better-Inv-loop table code m n t numbers₀ used₀ path₀ count given low wanted q from w₀ numbers used path w =
+edge-better-Inv-loop table twins code m n t numbers₀ used₀ path₀ count given low wanted q from w₀ numbers used path w =
     (w ≤ n) × (numbers ≡ numbers₀) × (used ≡ used₀) × (path ≡ path₀)
     × ((v : ℕ) → v < w → Tried-way table code t (in-place numbers₀ used₀ path₀ count given low) q v)
 
 abbrev edge-better-μ-loop : edge-better-lts.MeasureT-loop
-edge-better-μ-loop table code m n t numbers₀ used₀ path₀ count given low wanted q from w₀ numbers used path w = n - w
+edge-better-μ-loop table twins code m n t numbers₀ used₀ path₀ count given low wanted q from w₀ numbers used path w = n - w
 
 -- WHERE IT IS FORWARD
 edge-slice-low : (t : ℕ) (c : edge-better-lts.After-shared-slice-known (edge-claims t)
@@ -349,34 +355,49 @@ byte t c = c .before .before .before .wanted-label .ensures .1
 
 -- a device of the drawing in the loop, and its label
 low-way :
-    (t : ℕ) (c : edge-better-lts.After-free-label (edge-claims t) (edge-better-at t) edge-better.Post edge-better-Inv-loop edge-better-μ-loop)
+    (t : ℕ) (c : edge-better-lts.After-counted-label (edge-claims t) (edge-better-at t) edge-better.Post edge-better-Inv-loop edge-better-μ-loop)
     → c .before .before .before .loop .w < c .before .before .before .before .before .before .before .before .before .before .before .before
     .before .before .before .before .before .args .n
 low-way t c = omega (arith, c .before .before .loop-test .taken)
 
-free-at :
-    (t : ℕ) (c : edge-better-lts.After-free-label (edge-claims t) (edge-better-at t) edge-better.Post edge-better-Inv-loop edge-better-μ-loop)
+counted-at :
+    (t : ℕ) (c : edge-better-lts.After-counted-label (edge-claims t) (edge-better-at t) edge-better.Post edge-better-Inv-loop edge-better-μ-loop)
     → let a = c .before .before .before .before .before .before .before .before .before .before .before .before .before .before .before
     .before .before .args in
-    Free-label (a .table .now) (a .used .now) (device-placed (a .numbers .now) (a .path .now)
+    Counted-label (a .table .now) (a .used .now) (device-placed (a .numbers .now) (a .path .now)
     (c .before .before .before .before .before .before .before .before .before .before .before .before .place-of .result))
-    (c .before .before .before .loop .w) (c .free-label .result)
-free-at t c =
+    (c .before .before .before .loop .w) (c .counted-label .result)
+counted-at t c =
     let a = c .before .before .before .before .before .before .before .before .before .before .before .before .before .before .before
     .before .before .args in
-    let Seen : List Bool → ℕ → Type 0 = λ used u. Free-label (a .table .now) used u (c .before .before .before .loop .w) (c .free-label .result) in
+    let Seen : List Bool → ℕ → Type 0 = λ used u.
+    Counted-label (a .table .now) used u (c .before .before .before .loop .w) (c .counted-label .result) in
     subst (λ (u : ℕ). Seen (a .used .now) u) (c .before .before .before .before .device-at .ensures .0)
     (subst (λ (used : List Bool). Seen used (c .before .before .before .before .device-at .result))
-    (c .before .before .before .loop .inv .2) (c .free-label .ensures))
+    (c .before .before .before .loop .inv .2) (c .counted-label .ensures))
 
 -- the label wanted is found
 own :
     (t : ℕ) (c : edge-better-lts.Then3 (edge-claims t) (edge-better-at t) edge-better.Post edge-better-Inv-loop edge-better-μ-loop)
     → let a = c .before .before .before .before .before .before .before .before .before .before .before .before .before .before .before
     .before .before .before .before .before .args in
-    c .before .before .before .free-label .result ≡ wanted-label (a .code .now) (a .t)
+    c .before .before .before .counted-label .result ≡ wanted-label (a .code .now) (a .t)
 own t c = c .if3 .taken ∙ c .before .before .before .before .before .before .before .before .before .before .before .before .before .before
     .before .before .before .before .wanted-label .ensures .0
+
+tied-at :
+    (t : ℕ) (c : edge-better-lts.Then3 (edge-claims t) (edge-better-at t) edge-better.Post edge-better-Inv-loop edge-better-μ-loop)
+    → let f = c .before .before .before in
+    let a = f .before .before .before .before .before .before .before .before .before .before .before .before .before .before .before .before
+    .before .args in
+    Free-label (a .table .now) (a .used .now) (device-placed (a .numbers .now) (a .path .now)
+    (f .before .before .before .before .before .before .before .before .before .before .before .before .place-of .result))
+    (f .before .before .before .loop .w) (f .counted-label .result)
+tied-at t c =
+    let f = c .before .before .before in
+    let a = f .before .before .before .before .before .before .before .before .before .before .before .before .before .before .before .before
+    .before .args in
+    counted-free (counted-at t f) (wanted-label-some (a .code .now) (a .t) (own t c))
 
 room : (t : ℕ) (c : edge-better-lts.Then3 (edge-claims t) (edge-better-at t) edge-better.Post edge-better-Inv-loop edge-better-μ-loop)
     → c .before .before .before .before .before .before .before .before .before .before .before .before .before .before .before .before
@@ -384,51 +405,51 @@ room : (t : ℕ) (c : edge-better-lts.Then3 (edge-claims t) (edge-better-at t) e
 room t c =
     let k = c .before .before .before .before .before .before .before .before .before .before .before .before .before .before .before in
     let f = c .before .before .before in
-    let p = k .before .before .before .before .before .pre .1 in
+    let p = k .before .before .before .before .before .pre .1 .0 in
     edge-way-room (p .goes) (p .more) (p .ahead) (k .place-of .result) (k .place-of .ensures .0) (k .place-of .ensures .1) (byte t k)
-    (f .before .before .before .loop .w) (low-way t f) (free-at t f) (own t c)
+    (f .before .before .before .loop .w) (low-way t f) (tied-at t c) (own t c)
 
 place-room : (t : ℕ) (c : edge-better-lts.Then3 (edge-claims t) (edge-better-at t) edge-better.Post edge-better-Inv-loop edge-better-μ-loop)
     → c .before .before .before .before .before .before .before .before .before .before .before .before .before .before .before .place-of
     .result + 1 < 10
 place-room t c =
     let k = c .before .before .before .before .before .before .before .before .before .before .before .before .before .before .before in
-    omega (arith, room t c, k .place-of .ensures .0, goes-below (k .before .before .before .before .before .pre .1 .goes))
+    omega (arith, room t c, k .place-of .ensures .0, goes-below (k .before .before .before .before .before .pre .1 .0 .goes))
 
 edge-better-wanted-label-requires :
     (t : ℕ) → edge-better-lts.Need-wanted-label-requires (edge-claims t) (edge-better-at t) edge-better.Post edge-better-Inv-loop edge-better-μ-loop
-edge-better-wanted-label-requires t c κs = goes-room (c .before .pre .1 .goes) (c .before .pre .1 .more)
+edge-better-wanted-label-requires t c κs = goes-room (c .before .pre .1 .0 .goes) (c .before .pre .1 .0 .more)
 
 edge-better-mul-place-of :
     (t : ℕ) → edge-better-lts.Need-mul-place-of (edge-claims t) (edge-better-at t) edge-better.Post edge-better-Inv-loop edge-better-μ-loop
 edge-better-mul-place-of t c =
-    let p = c .before .before .before .pre .1 in
+    let p = c .before .before .before .pre .1 .0 in
     omega (arith, goes-room (p .goes) (p .more), edge-slice-low t (c .before .before))
 
 edge-better-shared-slice-read-place-of :
     (t : ℕ) → edge-better-lts.Need-shared-slice-read-place-of (edge-claims t)
     (edge-better-at t) edge-better.Post edge-better-Inv-loop edge-better-μ-loop
 edge-better-shared-slice-read-place-of t c =
-    let p = c .before .before .before .before .pre .1 in
+    let p = c .before .before .before .before .pre .1 .0 in
     omega (arith, goes-room (p .goes) (p .more))
 
 edge-better-place-of-requires :
     (t : ℕ) → edge-better-lts.Need-place-of-requires (edge-claims t) (edge-better-at t) edge-better.Post edge-better-Inv-loop edge-better-μ-loop
 edge-better-place-of-requires t c κs =
-    let p = c .before .before .before .before .pre .1 in
+    let p = c .before .before .before .before .pre .1 .0 in
     (goes-count (p .goes), front-on-path (p .goes) (p .more) (p .ahead))
 
 edge-better-some-before-requires :
     (t : ℕ) → edge-better-lts.Need-some-before-requires (edge-claims t) (edge-better-at t) edge-better.Post edge-better-Inv-loop edge-better-μ-loop
 edge-better-some-before-requires t c κs =
-    let p = c .before .before .before .before .before .before .before .before .pre .1 .goes in
+    let p = c .before .before .before .before .before .before .before .before .pre .1 .0 .goes in
     (goes-two p, c .before .before .before .place-of .ensures .0, goes-places p, goes-marked p)
 
 edge-better-returns :
     (t : ℕ) → edge-better-lts.Need-returns (edge-claims t) (edge-better-at t) edge-better.Post edge-better-Inv-loop edge-better-μ-loop
 edge-better-returns t c =
     let k = c .before .before .before .before .before in
-    let p = k .before .before .before .before .before .pre .1 in (
+    let p = k .before .before .before .before .before .pre .1 .0 in (
       decides-true (edge-before (p .goes) (p .more) (p .ahead) (k .place-of .result) (k .place-of .ensures .0) (k .place-of .ensures .1)
           (c .before .some-before .ensures .holds (c .if1 .taken))),
       not-taken,
@@ -437,7 +458,7 @@ edge-better-returns t c =
 edge-better-device-at-requires :
     (t : ℕ) → edge-better-lts.Need-device-at-requires (edge-claims t) (edge-better-at t) edge-better.Post edge-better-Inv-loop edge-better-μ-loop
 edge-better-device-at-requires t c κs =
-    let p = goes-places (c .before .before .before .before .before .before .before .before .before .before .before .before .pre .1 .goes) in
+    let p = goes-places (c .before .before .before .before .before .before .before .before .before .before .before .before .pre .1 .0 .goes) in
     let h = c .before .before .before .before .before .before .before .place-of .ensures .0 in
     (omega (arith, p .count-low, h), p .on-path _ h, p .lands _ h)
 
@@ -445,13 +466,18 @@ edge-better-loop-holds :
     (t : ℕ) → edge-better-lts.Need-loop-holds (edge-claims t) (edge-better-at t) edge-better.Post edge-better-Inv-loop edge-better-μ-loop
 edge-better-loop-holds t c = (search needs, refl, refl, refl, λ v h. absurd (not-suc-le-zero h))
 
-edge-better-free-label-requires :
-    (t : ℕ) → edge-better-lts.Need-free-label-requires (edge-claims t) (edge-better-at t) edge-better.Post edge-better-Inv-loop edge-better-μ-loop
-edge-better-free-label-requires t c κs =
+edge-better-counted-label-requires :
+    (t : ℕ) → edge-better-lts.Need-counted-label-requires (edge-claims t) (edge-better-at t) edge-better.Post edge-better-Inv-loop edge-better-μ-loop
+edge-better-counted-label-requires t c κs =
     let d = goes-marked (c .before .before .before .before .before .before .before .before .before .before .before .before .before .before
-    .before .before .pre .1 .goes) in
-    let l = c .before .before .loop in
-    (c .before .before .before .device-at .ensures .1, omega (arith, d .low), ap length (l .inv .2) ∙ d .size)
+    .before .before .pre .1 .0 .goes) in
+    let l = c .before .before .loop in (
+      c .before .before .before .device-at .ensures .1,
+      omega (arith, d .low),
+      ap length (l .inv .2) ∙ d .size,
+      c .before .before .before .before .before .before .before .before .before .before .before .before .before .before .before .before
+          .pre .1 .1,
+    )
 
 edge-better-is-lower-requires :
     (t : ℕ) → edge-better-lts.Need-is-lower-requires (edge-claims t) (edge-better-at t) edge-better.Post edge-better-Inv-loop edge-better-μ-loop
@@ -462,11 +488,11 @@ edge-better-returns-2 :
 edge-better-returns-2 t c =
     let k = c .before .before .before .before .before .before .before .before .before .before .before .before .before .before in
     let f = c .before .before in
-    let p = k .before .before .before .before .before .pre .1 in
+    let p = k .before .before .before .before .before .pre .1 .0 in
     let lower = c .before .is-lower .ensures .holds (c .if2 .taken) in (
       decides-true (edge-lower (p .goes) (p .more) (p .ahead) (k .place-of .result) (k .place-of .ensures .0) (k .place-of .ensures .1)
-          (byte t k) (f .before .before .before .loop .w) (low-way t f) (free-at t f)
-          (subst (Lower (f .free-label .result)) (k .before .before .before .wanted-label .ensures .0) lower)),
+          (byte t k) (f .before .before .before .loop .w) (low-way t f) (counted-free (counted-at t f) (lower .0))
+          (subst (Lower (f .counted-label .result)) (k .before .before .before .wanted-label .ensures .0) lower)),
       not-taken,
     )
 
@@ -489,7 +515,7 @@ edge-better-cast-numbers t c = omega (
   low-way t (c .before .before .before .before .before),
   goes-marked
       (c .before .before .before .before .before .before .before .before .before .before .before .before .before .before .before .before
-      .before .before .before .before .before .before .pre .1 .goes) .low,
+      .before .before .before .before .before .before .pre .1 .0 .goes) .low,
 )
 
 edge-better-element-write-numbers :
@@ -503,7 +529,7 @@ edge-better-element-write-used t c = omega (
   low-way t (c .before .before .before .before .before),
   goes-marked
       (c .before .before .before .before .before .before .before .before .before .before .before .before .before .before .before .before
-      .before .before .before .before .before .before .pre .1 .goes) .low,
+      .before .before .before .before .before .before .pre .1 .0 .goes) .low,
 )
 
 edge-better-cast-path :
@@ -522,7 +548,7 @@ edge-better-add-better :
     (t : ℕ) → edge-better-lts.Need-add-better (edge-claims t) (edge-better-at t) edge-better.Post edge-better-Inv-loop edge-better-μ-loop
 edge-better-add-better t c =
     let p = c .before .before .before .before .before .before .before .before .before .before .before .before .before .before .before
-    .before .before .before .before .before .before .before .pre .1 in
+    .before .before .before .before .before .before .before .pre .1 .0 in
     omega (
       arith,
       goes-room (p .goes) (p .more),
@@ -548,12 +574,15 @@ edge-better-better-requires t c κs =
     let f = h .before .before .before in
     let l = f .before .before .before .loop in
     let a = k .before .before .before .before .before .args in
-    let p = k .before .before .before .before .before .pre .1 in (
+    let p = k .before .before .before .before .before .pre .1 .0 in (
       omega (arith, k .before .before .before .before .before .pre .0, p .more),
-      subst (Test-goes-on (a .table .now) (a .code .now) (a .m) (a .n) (a .t + 1))
-          (edged-same (a .count) (a .given) (a .low) (k .place-of .result) (l .w) (l .inv .1) (l .inv .2) (l .inv .3))
-          (edge-goes (p .goes) (p .more) (p .ahead) (k .place-of .result) (k .place-of .ensures .0) (k .place-of .ensures .1) (byte t k)
-          (l .w) (low-way t f) (free-at t f) (own t h)),
+      (
+        subst (Test-goes-on (a .table .now) (a .code .now) (a .m) (a .n) (a .t + 1))
+            (edged-same (a .count) (a .given) (a .low) (k .place-of .result) (l .w) (l .inv .1) (l .inv .2) (l .inv .3))
+            (edge-goes (p .goes) (p .more) (p .ahead) (k .place-of .result) (k .place-of .ensures .0) (k .place-of .ensures .1) (byte t k)
+            (l .w) (low-way t f) (tied-at t h) (own t h)),
+        k .before .before .before .before .before .pre .1 .1,
+      ),
     )
 
 edge-better-returns-3 :
@@ -565,9 +594,9 @@ edge-better-returns-3 t c =
     let f = h .before .before .before in
     let l = f .before .before .before .loop in
     let a = k .before .before .before .before .before .args in
-    let p = k .before .before .before .before .before .pre .1 in (
+    let p = k .before .before .before .before .before .pre .1 .0 in (
       decides-true (edge-tells (p .goes) (p .more) (p .ahead) (k .place-of .result) (k .place-of .ensures .0) (k .place-of .ensures .1)
-          (byte t k) (l .w) (low-way t f) (free-at t f) (own t h)
+          (byte t k) (l .w) (low-way t f) (tied-at t h) (own t h)
           (subst (Better-below (a .code .now) (a .t + 1))
           (sym (edged-same (a .count) (a .given) (a .low) (k .place-of .result) (l .w) (l .inv .1) (l .inv .2) (l .inv .3)))
           (c .before .better .ensures .0 .holds (c .if4 .taken)))),
@@ -585,7 +614,7 @@ edge-better-element-write-used-2 t c = omega (
   low-way t (c .before .before .before .before .before .before .before .before .before
       .before),
   goes-marked (c .before .before .before .before .before .before .before .before .before .before .before .before .before .before
-      .before .before .before .before .before .before .before .before .before .before .before .before .before .pre .1 .goes) .low,
+      .before .before .before .before .before .before .before .before .before .before .before .before .before .pre .1 .0 .goes) .low,
 )
 
 edge-better-add-path-2 :
@@ -611,7 +640,7 @@ edge-better-loop-again t c =
     let f = c .before .before .before in
     let l = f .before .before .before .loop in
     let a = k .before .before .before .before .before .args in
-    let p = k .before .before .before .before .before .pre .1 in (
+    let p = k .before .before .before .before .before .pre .1 .0 in (
       omega (arith, f .before .before .loop-test .taken),
       ⊎-elim
           (λ w. w .8 ∙ put-back (l .numbers) _ (a .numbers .now) (a .given) (l .w) (w .6 .ensures .1 .numbers-same (w .7 .left)) (l .inv .1))
@@ -620,7 +649,8 @@ edge-better-loop-again t c =
           (λ w.
           w .9
           ∙ freed (l .used) _ (a .used .now) (l .w) (w .6 .ensures .1 .used-same (w .7 .left)) (l .inv .2)
-          (free-at t f .taken (wanted-label-some (a .code .now) (a .t) (own t (record { before = c .before; if3 = w .0 })))))
+          (tied-at t (record { before = c .before; if3 = w .0 }) .taken
+          (wanted-label-some (a .code .now) (a .t) (own t (record { before = c .before; if3 = w .0 })))))
           (λ w. w .2 ∙ l .inv .2) (c .if3 .came),
       ⊎-elim
           (λ w.
@@ -635,18 +665,25 @@ edge-better-loop-again t c =
           (⊎-elim
           (λ w.
           tried-way (p .goes) (p .more) (p .ahead) (k .place-of .result) (k .place-of .ensures .0) (k .place-of .ensures .1) (byte t k)
-          (l .w) (low-way t f) (free-at t f) (own t (record { before = c .before; if3 = w .0 }))
+          (l .w) (low-way t f) (tied-at t (record { before = c .before; if3 = w .0 }))
+          (own t (record { before = c .before; if3 = w .0 }))
           (λ m.
           w .6 .ensures .0 .fails (w .7 .left)
           (subst (Better-below (a .code .now) (a .t + 1))
           (edged-same (a .count) (a .given) (a .low) (k .place-of .result) (l .w) (l .inv .1) (l .inv .2) (l .inv .3)) m)))
           (λ w.
+          ⊎-elim
+          (λ y.
           not-lower-way (p .goes) (p .more) (p .ahead) (k .place-of .result) (k .place-of .ensures .0) (k .place-of .ensures .1) (byte t k)
-          (l .w) (low-way t f) (free-at t f)
+          (l .w) (low-way t f) y
           (λ m.
           c .before .before .is-lower .ensures .fails (c .before .if2 .left)
-          (subst (Lower (f .free-label .result)) (sym (k .before .before .before .wanted-label .ensures .0)) m))
+          (subst (Lower (f .counted-label .result)) (sym (k .before .before .before .wanted-label .ensures .0)) m))
           (λ e. w .0 .left (e ∙ sym (k .before .before .before .wanted-label .ensures .0))))
+          (λ y.
+          twin-way (p .goes) (p .more) (p .ahead) (k .place-of .result) (k .place-of .ensures .0) (k .place-of .ensures .1) (byte t k)
+          (l .w) (low-way t f) (y .1) (l .inv .4))
+          (counted-at t f))
           (c .if3 .came)),
     )
 
@@ -655,7 +692,7 @@ edge-better-returns-4 :
 edge-better-returns-4 t c =
     let k = c .before .before .before .before .before .before .before .before .before .before in
     let l = c .before .loop in
-    let p = k .before .before .before .before .before .pre .1 in (
+    let p = k .before .before .before .before .before .pre .1 .0 in (
       decides-false (edge-way-none (p .goes) (p .more) (p .ahead) (k .place-of .result) (k .place-of .ensures .0) (k .place-of .ensures .1)
           (byte t k) (c .before .before .before .before .before .before .some-before .ensures .fails
           (c .before .before .before .before .before .if1 .left))
@@ -695,7 +732,7 @@ pub +better+edge-better-spec : {M : Type 1} → statement M
     (edge-better-returns t)
     (edge-better-device-at-requires t)
     (edge-better-loop-holds t)
-    (edge-better-free-label-requires t)
+    (edge-better-counted-label-requires t)
     (edge-better-is-lower-requires t)
     (edge-better-returns-2 t)
     (edge-better-element-copy-out-number t)

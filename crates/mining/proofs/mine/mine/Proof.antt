@@ -5,6 +5,7 @@ use Prim.Native.Nat.{ℕ, _+_, _-_, _<_, _≤_}
 use native.Mathlib.Omega.{arith}
 use borrow.Author.Needs.{needs}
 use Rattle.walks.specs.Kinds.{Occurs}
+use Rattle.walks.specs.EmbeddingLists.{Lists-sized}
 use Rattle.mining.specs.SurveyMined.{Kinds-done}
 use Rattle.mining.specs.SurveyMinedLaws.{
   mine-starts,
@@ -26,18 +27,22 @@ use Rattle.growing.proofs.grow.walk.Reads as walk-reads
 use Rattle.surveys.proofs.kinds.kinds_of.Reads as kinds-of-reads
 
 abbrev Inv-loop : tie.InvT-loop
-Inv-loop survey labels rank alphabet settings cells₀ seen₀ list₀ output₀ written₀ n occurs kind₀ cells seen list output written kind =
-    Occurs survey occurs × Kinds-done survey settings output₀ kind cells seen list output written
+Inv-loop survey labels rank alphabet settings cells₀ seen₀ list₀ kept₀ ends₀ output₀ written₀ n occurs kind₀ cells seen list kept ends output written
+    kind =
+    Occurs survey occurs × Kinds-done survey settings output₀ kind cells seen list output written × Lists-sized kept ends
 
 abbrev μ-loop : tie.MeasureT-loop
-μ-loop survey labels rank alphabet settings cells₀ seen₀ list₀ output₀ written₀ n occurs kind₀ cells seen list output written kind =
+μ-loop survey labels rank alphabet settings cells₀ seen₀ list₀ kept₀ ends₀ output₀ written₀ n occurs kind₀ cells seen list kept ends output written
+    kind =
     256 - kind
 
 kinds-of-requires : tie.Need-kinds-of-requires Inv-loop μ-loop
-kinds-of-requires c κs = c .before .before .pre .set-up .prepared .accepted
+kinds-of-requires c κs = c .before .before .pre .0 .set-up .prepared .accepted
 
 loop-holds : tie.Need-loop-holds Inv-loop μ-loop
-loop-holds c = (c .kinds-of .ensures, mine-starts (c .before .before .before .pre) (c .before .before .before .args .output .now))
+loop-holds c =
+    let s = c .before .before .before in
+    (c .kinds-of .ensures, mine-starts (s .pre .0) (s .args .output .now), s .pre .1)
 
 array-read-if1 : tie.Need-array-read-if1 Inv-loop μ-loop
 array-read-if1 c = search needs
@@ -47,12 +52,15 @@ cast-count-firsts c = search needs
 
 count-firsts-requires : tie.Need-count-firsts-requires Inv-loop μ-loop
 count-firsts-requires c κs =
-    let s = c .before .before .before .before .before .before .before .before in
-    (record { alphabet = s .args .alphabet .now; prepared = s .pre .set-up .prepared }, c .before .before .before .before .loop .inv .1 .blank)
+    let l = c .before .before .before .before in
+    let s = l .before .before .before .before in
+    (record { alphabet = s .args .alphabet .now; prepared = s .pre .0 .set-up .prepared }, l .loop .inv .1 .blank)
 
 choose-requires : tie.Need-choose-requires Inv-loop μ-loop
-choose-requires c κs = mine-chooses (c .before .before .before .before .before .before .before .before .before .before .before .before .pre)
-    (c .before .before .before .before .before .before .before .before .loop .inv .1) (c .before .before .before .count-firsts .ensures)
+choose-requires c κs =
+    let f = c .before .before .before in
+    let l = f .before .before .before .before .before in
+    mine-chooses (l .before .before .before .before .pre .0) (l .loop .inv .1) (f .count-firsts .ensures)
 
 new-requires : tie.Need-new-requires Inv-loop μ-loop
 new-requires c κs = search needs
@@ -62,10 +70,13 @@ cast-walk c = search needs
 
 walk-requires : tie.Need-walk-requires Inv-loop μ-loop
 walk-requires c κs =
-    mine-walks (c .before .before .before .before .before .before .before .before .before .before .before .before .before .before .before
-    .before .before .before .pre) (c .before .before .before .before .before .before .before .before .before .before .before .before .before
-    .before .loop .inv .1) (c .before .before .before .before .before .before .before .before .before .count-firsts .ensures)
-    (c .before .before .before .before .before .choose .ensures) (c .before .before .before .before .new .ensures)
+    let n = c .before .before .before .before .before .before in
+    let f = n .before .before .before .before .before in
+    let l = f .before .before .before .before .before in (
+      mine-walks (l .before .before .before .before .pre .0) (l .loop .inv .1) (f .count-firsts .ensures) (n .before .choose .ensures)
+          (n .new .ensures),
+      record { sized = l .loop .inv .2; at = λ e h. absurd (omega (arith, n .new .ensures .no-record)) },
+    )
 
 enum-known-count : tie.Need-enum-known-count Inv-loop μ-loop
 enum-known-count c = search needs
@@ -74,19 +85,21 @@ enum-told : tie.Need-enum-told Inv-loop μ-loop
 enum-told c = search needs
 
 same-length : tie.Need-same-length Inv-loop μ-loop
-same-length c = c .before .before .before .before .walk .ensures .size
-    ∙ c .before .before .before .before .before .before .before .before .before .before .before .before .before .before .before .before
-    .before .before .before .loop .inv .1 .size
+same-length c =
+    let w = c .before .before .before .before in
+    let n = w .before .before .before .before .before .before .before in
+    let f = n .before .before .before .before .before in
+    let l = f .before .before .before .before .before in
+    w .walk .ensures .0 .size ∙ l .loop .inv .1 .size
 
 returns : tie.Need-returns Inv-loop μ-loop
 returns c =
-    mine-full (c .before .before .before .before .before .before .before .before .before .before .before .before .before .before .before
-    .before .before .before .before .before .before .before .before .pre)
-    (c .before .before .before .before .before .before .before .before .before .before .before .before .before .before .before .before
-    .before .before .before .loop .inv .1) (c .before .before .before .before .before .before .before .before .before .before .before
-    .before .before .before .count-firsts .ensures) (c .before .before .before .before .before .before .before .before .before .before
-    .choose .ensures) (c .before .before .before .before .before .before .before .before .before .new .ensures)
-    (rw (c .enum-told .given .1) at (c .before .before .before .before .walk .ensures))
+    let w = c .before .before .before .before in
+    let n = w .before .before .before .before .before .before .before in
+    let f = n .before .before .before .before .before in
+    let l = f .before .before .before .before .before in
+    mine-full (l .before .before .before .before .pre .0) (l .loop .inv .1) (f .count-firsts .ensures) (n .before .choose .ensures) (n .new .ensures)
+    (rw (c .enum-told .given .1) at (w .walk .ensures .0))
 
 add-kind : tie.Need-add-kind Inv-loop μ-loop
 add-kind c = omega (arith, c .before .loop-test .taken)
@@ -98,20 +111,21 @@ loop-again : tie.Need-loop-again Inv-loop μ-loop
 loop-again c =
     let s = c .before .before .before .before .before .before in
     let l = c .before .before .loop in
-    let h = c .before .loop-test .taken in (
+    let h = c .before .loop-test .taken in
+    ⊎-elim
+    (λ w. rw (w .21, w .22, w .23, w .24, w .25, w .26, w .27) (
       l .inv .0,
-      ⊎-elim
-          (λ w. rw (w .19, w .20, w .21, w .22, w .23)
-          (mine-next (s .pre) (l .inv .1) (w .3 .ensures) (w .7 .ensures) (w .8 .ensures) h (rw (w .17 .given .1) at (w .13 .ensures))))
-          (λ w. rw (w .1, w .2, w .3, w .4, w .5) (mine-skips (s .pre) h (l .inv .0) (w .0 .left) (l .inv .1)))
-          (c .if1 .came),
-    )
+      mine-next (s .pre .0) (l .inv .1) (w .3 .ensures) (w .7 .ensures) (w .8 .ensures) h (rw (w .19 .given .1) at (w .15 .ensures .0)),
+      w .15 .ensures .1 .sized,
+    ))
+    (λ w. rw (w .1, w .2, w .3, w .4, w .5, w .6, w .7) (l .inv .0, mine-skips (s .pre .0) h (l .inv .0) (w .0 .left) (l .inv .1), l .inv .2))
+    (c .if1 .came)
 
 same-length-2 : tie.Need-same-length-2 Inv-loop μ-loop
 same-length-2 c = search needs
 
 returns-2 : tie.Need-returns-2 Inv-loop μ-loop
-returns-2 c = mine-ends (c .before .before .before .before .before .pre) (omega (arith, c .loop-test .left)) (c .before .loop .inv .1)
+returns-2 c = mine-ends (c .before .before .before .before .before .pre .0) (omega (arith, c .loop-test .left)) (c .before .loop .inv .1)
 
 pub mine-spec : {M : Type 1} → statement M
 mine-spec =

@@ -1,7 +1,9 @@
 -- Definitions.
+pub mod Branches
 pub mod Extensions
 pub mod Ways
+pub mod NextRecords
 -- Laws over them.
-pub mod Branches
+pub mod InPlaceLaws
 pub mod ExtensionLaws
 pub mod WayLaws

@@ -1,14 +1,12 @@
 -- The walk over the devices that tie: what is known after each. Assumes nothing.
-use mathlib.Core.Path.{_≡_, refl}
+use mathlib.Core.Path.{_≡_}
 use mathlib.Core.List.{List}
-use Prim.Native.Nat.{ℕ, _+_, _-_, _≤_, _<_}
-use native.Mathlib.Nat.{not-suc-le-zero}
+use Prim.Native.Nat.{ℕ, _+_, _≤_, _<_}
 use native.Mathlib.Omega.{arith}
 use native.Mathlib.Decide.{decLt}
 use Rattle.codes.specs.BranchState.{State, Free, edge-label}
 use Rattle.codes.specs.Twins.{Free-twin}
-use Rattle.branches.specs.declared.extension.Extension.{Extension}
-use Rattle.branches.specs.declared.extension.Extension.the-variants.{Chord, Edge, None}
+use Rattle.branches.specs.declared.extension.Extension.the-variants.{Edge}
 use Rattle.branches.specs.Ways.{Ties-way, Next-way}
 
 -- each device from n on below w that ties is passed over
@@ -38,28 +36,3 @@ module _ {t : List ℕ} {b : State} {q l n : ℕ} where
         way = λ x. absurd (omega arith);
         first = λ v g k. none v g (omega arith);
       }
-
--- THE WAYS, case by case
-module _ {t : List ℕ} {b : State} {q l : ℕ} where
-  pub chord-way : Next-way t b (Chord q l) 0 0
-  chord-way = record { low = omega arith; rises = λ x. omega arith; way = λ h. refl; first = λ w h g. absurd (not-suc-le-zero g) }
-
-  pub chord-ways-end : {n : ℕ} → (n ≡ 0 → ⊥) → Next-way t b (Chord q l) n 10
-  chord-ways-end z =
-      record {
-        low = omega arith;
-        rises = λ x. absurd (omega arith);
-        way = λ g. absurd (omega arith);
-        first = λ w g k e. absurd (z (omega arith));
-      }
-
-pub nothing-ways : {t : List ℕ} {b : State} {n : ℕ} → Next-way t b None n 10
-nothing-ways = record { low = omega arith; rises = λ x. absurd (omega arith); way = λ g. absurd (omega arith); first = λ w g k e. e }
-
--- a way from behind w on leaves fewer
-pub way-later : {t : List ℕ} {b : State} {s : Extension} {n r : ℕ} → Next-way t b s n r → (w : ℕ) → w < n → w < 10 → 10 - r < 10 - w
-way-later {r = r} k w h g = go (decLt r 10)
-  where
-    go : Dec (r < 10) → 10 - r < 10 - w
-    go (yes l) = omega (arith, k .rises l)
-    go (no l) = omega arith

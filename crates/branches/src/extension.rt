@@ -1,14 +1,16 @@
 // The least record that goes on from a branch: a backward one to the lowest place that has a cable, else a forward one
 // from the deepest place that has one, along its least label.
-use crate::branch::Branch;
+use crate::branch::device_at;
 use records::drawing::Drawing;
 use tables::table::CELLS;
 use tables::table::label;
 ghost use mathlib.Core.Path.{_≡_};
-ghost use Prim.Native.Nat.{_<_};
+ghost use mathlib.Core.Bool.{Bool};
+ghost use mathlib.Core.List.{List};
+ghost use Prim.Native.Nat.{ℕ, _<_};
+ghost use lib.ListN.{length};
 ghost use Rattle.codes.specs.BranchState.{No-chord};
-ghost use Rattle.codes.specs.BranchBounds.{Bounds};
-ghost use Rattle.branches.specs.Branches.{state-of};
+ghost use Rattle.branches.specs.Branches.{in-place, Placed, Places};
 ghost use Rattle.branches.specs.Extensions.{lesser-label, Chord-seen, First-chord, Least-edge, Extension-found};
 
 // A backward record to a place of the path, a forward one from a place of the path, each with its label, or nothing.
@@ -25,27 +27,45 @@ enum Found {
 }
 
 // The label from the path's end to place q, where a backward step may go there; elsewhere 0, as if no cable were there.
-pub fn chord_label(table: &[u32; CELLS], branch: Branch, q: usize) -> u32
-    requires { ⌜ Bounds (state-of branch) × (q < branch .count) ⌝ }
-    ensures { λ r. ⌜ Chord-seen (now (table .entry)) (state-of branch) q r ⌝ }
+fn chord_label(
+    table: &[u32; CELLS],
+    numbers: &[u8; Drawing::MOST_DEVICES],
+    path: &[u8; Drawing::MOST_DEVICES],
+    count: usize,
+    low: usize,
+    q: usize,
+) -> u32
+    requires { ⌜ Places (now numbers) (now path) count × (q < count) ⌝ }
+    ensures { λ r. ⌜ ((used : List Bool) (given : ℕ)
+        → Chord-seen (now (table .entry)) (in-place (now (numbers .entry)) used (now (path .entry)) count given low) q r) ⌝ }
 {
-    if branch.count <= q + 2 {
+    if count <= q + 2 {
         return 0;
     }
-    if (branch.path[q] as usize) < branch.low {
+    if (path[q] as usize) < low {
         return 0;
     }
-    label(table, branch.device(branch.count - 1), branch.device(q))
+    label(
+        table,
+        device_at(numbers, path, count - 1),
+        device_at(numbers, path, q),
+    )
 }
 
 // The lowest place that has a chord: backward records rise by the device that they go to.
-fn first_chord(table: &[u32; CELLS], branch: Branch) -> Found
-    requires { ⌜ Bounds (state-of branch) ⌝ }
-    ensures { λ r. ⌜ First-chord (now (table .entry)) (state-of branch) r ⌝ }
+fn first_chord(
+    table: &[u32; CELLS],
+    numbers: &[u8; Drawing::MOST_DEVICES],
+    path: &[u8; Drawing::MOST_DEVICES],
+    count: usize,
+    low: usize,
+) -> Found
+    requires { ⌜ Places (now numbers) (now path) count ⌝ }
+    ensures { λ r. ⌜ ((used : List Bool) (given : ℕ)
+        → First-chord (now (table .entry)) (in-place (now (numbers .entry)) used (now (path .entry)) count given low) r) ⌝ }
 {
-    let n = branch.count;
-    for q in 0..n {
-        let l = chord_label(table, branch, q);
+    for q in 0..count {
+        let l = chord_label(table, numbers, path, count, low, q);
         if l != 0 {
             return Found::At(q, l);
         }
@@ -67,14 +87,21 @@ fn lesser(a: u32, b: u32) -> u32
 }
 
 // The least label from place q to a device that has no number, or 0.
-fn least_edge(table: &[u32; CELLS], branch: Branch, q: usize) -> u32
-    requires { ⌜ Bounds (state-of branch) × (q < branch .count) ⌝ }
-    ensures { λ r. ⌜ Least-edge (now (table .entry)) (state-of branch) q 10 r ⌝ }
+fn least_edge(
+    table: &[u32; CELLS],
+    numbers: &[u8; Drawing::MOST_DEVICES],
+    used: &[bool; Drawing::MOST_DEVICES],
+    path: &[u8; Drawing::MOST_DEVICES],
+    q: usize,
+) -> u32
+    requires { ⌜ Placed (now numbers) (now path) q × (length (now used) ≡ 10) ⌝ }
+    ensures { λ r. ⌜ ((count given low : ℕ) → Least-edge (now (table .entry))
+        (in-place (now (numbers .entry)) (now (used .entry)) (now (path .entry)) count given low) q 10 r) ⌝ }
 {
-    let from = branch.device(q);
+    let from = device_at(numbers, path, q);
     let mut least = 0;
     for w in 0..Drawing::MOST_DEVICES {
-        if !branch.used[w] {
+        if !used[w] {
             least = lesser(least, label(table, from, w));
         }
     }
@@ -82,14 +109,23 @@ fn least_edge(table: &[u32; CELLS], branch: Branch, q: usize) -> u32
 }
 
 // Where there is no chord, the deepest place that has an edge: forward records fall by the device that they come from.
-fn deepest_edge(table: &[u32; CELLS], branch: Branch) -> Extension
-    requires { ⌜ Bounds (state-of branch) × No-chord (now table) (state-of branch) ⌝ }
-    ensures { λ r. ⌜ Extension-found (now (table .entry)) (state-of branch) r ⌝ }
+fn deepest_edge(
+    table: &[u32; CELLS],
+    numbers: &[u8; Drawing::MOST_DEVICES],
+    used: &[bool; Drawing::MOST_DEVICES],
+    path: &[u8; Drawing::MOST_DEVICES],
+    count: usize,
+) -> Extension
+    requires { ⌜ Places (now numbers) (now path) count × (length (now used) ≡ 10) ⌝ }
+    ensures { λ r. ⌜ ((given low : ℕ)
+        → No-chord (now (table .entry)) (in-place (now (numbers .entry)) (now (used .entry)) (now (path .entry)) count given low)
+        → Extension-found (now (table .entry))
+        (in-place (now (numbers .entry)) (now (used .entry)) (now (path .entry)) count given low) r) ⌝ }
 {
-    let mut above = branch.count;
+    let mut above = count;
     while 0 < above {
         let q = above - 1;
-        let least = least_edge(table, branch, q);
+        let least = least_edge(table, numbers, used, path, q);
         if least != 0 {
             return Extension::Edge(q, least);
         }
@@ -99,12 +135,20 @@ fn deepest_edge(table: &[u32; CELLS], branch: Branch) -> Extension
 }
 
 // The least record that goes on from a branch.
-pub fn least_extension(table: &[u32; CELLS], branch: Branch) -> Extension
-    requires { ⌜ Bounds (state-of branch) ⌝ }
-    ensures { λ r. ⌜ Extension-found (now (table .entry)) (state-of branch) r ⌝ }
+pub fn least_extension(
+    table: &[u32; CELLS],
+    numbers: &[u8; Drawing::MOST_DEVICES],
+    used: &[bool; Drawing::MOST_DEVICES],
+    path: &[u8; Drawing::MOST_DEVICES],
+    count: usize,
+    low: usize,
+) -> Extension
+    requires { ⌜ Places (now numbers) (now path) count × (length (now used) ≡ 10) ⌝ }
+    ensures { λ r. ⌜ ((given : ℕ) → Extension-found (now (table .entry))
+        (in-place (now (numbers .entry)) (now (used .entry)) (now (path .entry)) count given low) r) ⌝ }
 {
-    match first_chord(table, branch) {
+    match first_chord(table, numbers, path, count, low) {
         Found::At(q, l) => Extension::Chord(q, l),
-        Found::Nothing => deepest_edge(table, branch),
+        Found::Nothing => deepest_edge(table, numbers, used, path, count),
     }
 }

@@ -1,86 +1,63 @@
--- A code that grows, as the program holds it: nothing held yet, where the next record starts from, one record
--- more. Rests on the readings of a code and the rows of codes. Assumes nothing.
-use mathlib.Core.Path.{_≡_, sym, ap, _∙_, subst}
-use mathlib.Core.List.{List, [], _∷_}
-use Prim.Native.Nat.{ℕ, _*_, _-_, _≤_}
-use native.Mathlib.Nat.{sub-zero}
+-- A code that grows in place: what does not reach its records leaves them and its kinds as they were, and five stores behind them are
+-- one record more. Assumes nothing.
+use mathlib.Core.Path.{_≡_, refl, sym, ap, _∙_, subst}
+use mathlib.Core.List.{List, [], map}
+use Prim.Native.Nat.{ℕ, _+_, _*_, _≤_}
+use native.Mathlib.Nat.{mul-le-mul-left}
 use native.Mathlib.Omega.{arith}
-use lib.ListN.{length, take, drop}
-use Rattle.laws.specs.Rows.{rows}
-use Rattle.laws.specs.Tests.{true-and-false}
-use Rattle.codes.specs.Code.{Rec, Reading, fresh, recs-in, code-records, stepped, rows-refusal, read-rows}
-use Rattle.codes.specs.ReadRows.{First-row, rows-cons, rows-divided, read-snoc}
-use Rattle.codes.specs.CodeBytes.{recs-in-length}
-use Rattle.readings.specs.declared.reading.Reading as held
-use Rattle.readings.specs.declared.reading.Step.{Step}
-use Rattle.readings.specs.declared.reading.Step.the-variants.{NotPermitted}
-use Rattle.readings.specs.Readings as readings
-use Rattle.readings.specs.Readings.{as-reading, Not-begun, Begun, Sound, Step-says, Can-take, Steps}
-use Rattle.readings.specs.ReadingLaws.{devices-some}
-use Rattle.growth.specs.PlacedRecords.{alone}
-use Rattle.candidates.specs.HeldCode.{records-of, Holding, basis, Can-grow, Grows}
+use lib.ListN.{length, take}
+use lib.Seq.{take-take}
+use Rattle.laws.specs.Rows.{rows, rows-sized, concat-rows, concat-injective}
+use Rattle.codes.specs.Code.{Rec, fresh, rec-in, recs-in, read-rows}
+use Rattle.codes.specs.RecordPut.{Front-kept}
+use Rattle.candidates.specs.HeldCode.{Kinds-held, Code-sized, Code-held, Code-kept, Appended}
 
-pub records-length : (h : held.Reading) → length (records-of h) ≡ h .code .count
-records-length h = recs-in-length (h .code .count) (h .code .records)
+-- A FRONT THAT STAYS
+front-shorter : {k n : ℕ} {xs ys : List ℕ} → k ≤ n → Front-kept n xs ys → Front-kept k xs ys
+front-shorter {k} {n} {xs} {ys} h e = record { is = sym (take-take k n ys h) ∙ ap (take k) (e .is) ∙ take-take k n xs h }
 
-module _ {h : held.Reading} where
-  -- NOTHING HELD YET
-  pub no-records : Not-begun h → records-of h ≡ []
-  unfolding recs-in rows
-  no-records n = ap (λ (m : ℕ). recs-in m (h .code .records)) (n .no-record)
+front-then : {k : ℕ} {xs ys zs : List ℕ} → Front-kept k xs ys → Front-kept k ys zs → Front-kept k xs zs
+front-then e f = record { is = f .is ∙ e .is }
 
-  pub holding-new : Not-begun h → Holding h
-  unfolding read-rows
-  holding-new n =
-      record {
-        is = n .is ∙ ap (read-rows fresh) (sym (no-records n));
-        sound = readings.not-begun n;
-        most = omega (arith, n .no-record);
-      }
+-- BOTH ARRAYS, one change after the other
+pub code-same : {m n : ℕ} {code kinds : List ℕ} → Code-sized code kinds → Code-kept m n code kinds code kinds
+code-same s = record { sized = s; front = record { is = refl }; met = record { is = refl } }
 
-  -- WHERE THE NEXT RECORD STARTS FROM: a lone device, or what is held
-  module _ (kind : ℕ) (p : Holding h) where
-    pub basis-alone : h .devices ≡ 0 → basis kind (records-of h) ≡ alone kind
-    basis-alone none = go (p .sound)
-      where
-        go : Sound h → basis kind (records-of h) ≡ alone kind
-        go (readings.not-begun n) = ap (basis kind) (no-records n)
-        go (readings.begun b) = absurd (omega (arith, devices-some h b))
+code-then : {m n k l : ℕ} {code kinds code₁ kinds₁ code₂ kinds₂ : List ℕ} → m ≤ k → n ≤ l
+    → Code-kept m n code kinds code₁ kinds₁ → Code-kept k l code₁ kinds₁ code₂ kinds₂ → Code-kept m n code kinds code₂ kinds₂
+code-then h g a b =
+    record {
+      sized = b .sized;
+      front = front-then (a .front) (front-shorter (mul-le-mul-left 5 h) (b .front));
+      met = front-then (a .met) (front-shorter g (b .met));
+    }
 
-    pub basis-held : Begun h → basis kind (records-of h) ≡ as-reading h
-    unfolding read-rows fresh
-    basis-held b = go (records-of h) (p .is)
-      where
-        go : (rs : List Rec) → as-reading h ≡ read-rows fresh rs → basis kind rs ≡ as-reading h
-        go [] e = absurd (omega (arith, b .invariant .two, ap (λ (x : Reading). length (x .kinds)) e))
-        go (r ∷ rs) e = sym e
+-- a record more, and what grew from the code with it
+pub code-grown : {m n more : ℕ} {e : Rec} {code kinds code₁ kinds₁ code₂ kinds₂ code₃ kinds₃ : List ℕ} → Code-kept m n code kinds code₁ kinds₁
+    → Appended code₁ kinds₁ m n e code₂ kinds₂ more → Code-kept (m + 1) more code₂ kinds₂ code₃ kinds₃ → Code-kept m n code kinds code₃ kinds₃
+code-grown a p b = code-then (omega arith) (omega arith) a (code-then (omega arith) (p .no-fewer) (p .kept) b)
 
--- ONE RECORD MORE
-module _ {h : held.Reading} {e : Rec} (g : Can-grow h e) where
-  next-row : First-row (as-reading h) e []
-  next-row =
-      subst (λ (x : Reading). First-row x e []) (sym (g .holding .is))
-      (rows-cons _ e [] (rows-divided fresh (records-of h) (e ∷ []) (g .accepted) .1))
+-- THE CODE THAT STAYS, with its kinds
+module _ {m n : ℕ} {code kinds code₁ kinds₁ : List ℕ} (most : m ≤ 20) (s : Code-sized code kinds) (k : Code-kept m n code kinds code₁ kinds₁) where
+  pub records-kept : recs-in m code₁ ≡ recs-in m code
+  unfolding recs-in
+  records-kept =
+      ap (map rec-in)
+      (concat-injective 5 (rows 5 m code₁) (rows 5 m code) (omega arith) (rows-sized 5 m code₁ (omega (arith, k .sized .long)))
+      (rows-sized 5 m code (omega (arith, s .long))) (concat-rows 5 m code₁ ∙ k .front .is ∙ sym (concat-rows 5 m code)))
 
-  pub grow-takes : Can-take h e
-  grow-takes = record { sound = g .holding .sound; good = next-row .step; kinds = next-row .kinds; room = g .room }
+  pub kinds-kept : Kinds-held (recs-in m code) kinds n → Kinds-held (recs-in m code) kinds₁ n
+  kinds-kept h = record { count = h .count; are = k .met .is ∙ h .are }
 
-  -- it is a permitted step
-  pub grow-permitted : (s : Step) → s ≡ NotPermitted → Step-says h e s → ⊥
-  unfolding Step-says
-  grow-permitted s is q = true-and-false (next-row .step) (subst (Step-says h e) is q)
+  pub held-kept : Kinds-held (recs-in m code) kinds n → Code-held code₁ kinds₁ m n
+  held-kept h =
+      record { sized = k .sized; met = subst (λ (γ : List Rec). Kinds-held γ kinds₁ n) (sym records-kept) (kinds-kept h) }
 
-  pub grow-steps : (r : held.Reading) → Steps h e r → Grows h e r
-  grow-steps r s =
-      record {
-        holding =
-            record {
-              is =
-                  s .is ∙ ap (λ (x : Reading). stepped x e) (g .holding .is) ∙ sym (read-snoc fresh (records-of h) e)
-                  ∙ ap (read-rows fresh) (sym (s .records));
-              sound = readings.begun (s .begun);
-              most = omega (arith, s .count, g .room);
-            };
-        records = s .records;
-        count = s .count;
-      }
+-- NO RECORD YET
+pub no-records : (code : List ℕ) → recs-in 0 code ≡ []
+unfolding recs-in rows
+no-records code = refl
+
+pub nothing-held : {code kinds : List ℕ} → Code-sized code kinds → Code-held code kinds 0 0
+unfolding read-rows fresh recs-in rows
+nothing-held s = record { sized = s; met = record { count = refl; are = refl } }

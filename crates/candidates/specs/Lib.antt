@@ -2,4 +2,5 @@
 pub mod HeldCode
 -- Laws over them.
 pub mod HeldCodeLaws
+pub mod AppendLaws
 pub mod NextRecordLaws

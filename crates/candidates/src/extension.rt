@@ -1,14 +1,15 @@
-// A code that grows: the record at a place, read off from what is held, and the code with that record more.
-use readings::reading::Reading;
-use readings::reading::Step;
+// A code that grows in place: the record at a place, read off from what is held, and the code with that record more.
+use records::code::Code;
 use surveys::ranks::ALPHABET;
 use tables::record::Record;
+use tables::record::put_record;
 use tables::table::cable_kind;
 use tables::table::other_kind;
 ghost use mathlib.Core.Path.{_≡_};
 ghost use Prim.Native.Nat.{_<_, _≤_};
+ghost use lib.ListN.{length};
 ghost use Rattle.tables.specs.Records.{as-rec};
-ghost use Rattle.candidates.specs.HeldCode.{labelled, Can-read-off, Read-off, Can-grow, Grows};
+ghost use Rattle.candidates.specs.HeldCode.{labelled, Can-read-off, Read-off, Can-append, Appended};
 
 // Rows below this one are of backward records, by the device that they go to.
 const BACKWARD_ROWS: usize = 8;
@@ -56,13 +57,27 @@ pub fn next_record(
     labelled(from, devices, kinds[from], l)
 }
 
-// The code with one record more. That record is a permitted step, so the code is never left as it was.
-pub fn grown(held: Reading, next: Record) -> Reading
-    requires { ⌜ Can-grow held (as-rec next) ⌝ }
-    ensures { λ r. ⌜ Grows held (as-rec next) r ⌝ }
+// The code grown by a record that is a permitted step: the number of its devices. A forward record goes to a new device, and the
+// first starts from one too. Nothing is ever taken back: whoever writes later overwrites, and what stands behind the records so
+// far plays no part.
+pub fn append(
+    code: &mut [u8; Code::BYTES],
+    kinds: &mut [u8; 10],
+    cables: usize,
+    devices: usize,
+    next: Record,
+) -> usize
+    requires { ⌜ Can-append (now code) (now kinds) cables devices (as-rec next) ⌝ }
+    ensures { λ r. ⌜ Appended (now (code .entry)) (now (kinds .entry)) cables devices (as-rec next)
+        (now (code .exit)) (now (kinds .exit)) r ⌝ }
 {
-    let Step::From(place) = held.step(next) else {
-        return held;
-    };
-    held.stepped(place, next)
+    put_record(code, cables, next);
+    if next.j <= next.i {
+        return devices;
+    }
+    let i = next.i as usize;
+    let j = next.j as usize;
+    kinds[i] = next.ki;
+    kinds[j] = next.kj;
+    j + 1
 }

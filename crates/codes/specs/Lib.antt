@@ -1,5 +1,6 @@
 -- Definitions.
 pub mod Code
+pub mod RecordPut
 pub mod BranchState
 pub mod Twins
 pub mod LeastSearch
@@ -17,6 +18,7 @@ pub mod FullCode
 pub mod LeastCode
 pub mod Decoded
 pub mod CodeBytes
+pub mod AppendedRecordLaws
 pub mod CodesTell
 pub mod Promise
 pub mod Proved

@@ -1,40 +1,39 @@
 -- Walking the next cables of a code: the record of each candidate, that the code may grow by it, and what is listed after
 -- each. Rests on Growths and Walking. Assumes nothing.
-use mathlib.Core.Path.{_≡_, refl, sym, ap, _∙_, subst}
+use mathlib.Core.Path.{_≡_, refl, sym, ap, ap₂, _∙_, subst}
 use mathlib.Core.Bool.{Bool, true, false, cond}
 use mathlib.Core.List.{List, [], _∷_, _++_, map, append-nil, append-assoc}
-use Prim.Native.Nat.{ℕ, suc, _+_, _*_, _-_, _/_, _%_, _^_, _≤_, _<_}
+use Prim.Native.Nat.{ℕ, suc, _+_, _-_, _/_, _%_, _^_, _≤_, _<_}
 use native.Mathlib.Nat.{mod-lt}
 use native.Mathlib.Omega.{arith}
 use lib.Dec.{ltb}
 use lib.ListN.{length, getD}
-use Rattle.laws.specs.Lists.{Mem, snoc, mem-map, mem-front, mem-back, map-append, mem-eq}
+use Rattle.laws.specs.Lists.{Mem, snoc, snoc-length, mem-map, mem-front, mem-back, map-append, mem-eq}
 use Rattle.laws.specs.Rising.{Rises, rises-apart}
 use Rattle.graphs.specs.Drawing.{Drawing, is-pattern}
 use Rattle.graphs.specs.Survey.{count-true}
-use Rattle.codes.specs.Code.{Rec, Reading, kinds-before, rec-before-by, before-by, rows-refusal, fresh, decoded, Least}
+use Rattle.codes.specs.Code.{Rec, Reading, kinds-before, rec-before-by, recs-in, rows-refusal, fresh, decoded, Least}
+use Rattle.codes.specs.CodeBytes.{recs-in-length}
 use Rattle.codes.specs.CodeOrder.{kinds-order}
+use Rattle.codes.specs.Greedy.{Greedy}
 use Rattle.growth.specs.Growth.{Listed-by, listed-none}
 use Rattle.growth.specs.Frequent.{Frequent}
-use Rattle.growth.specs.Places.{Ranks, place-of, record-at, record-in-row, cell-number, candidate-of}
+use Rattle.growth.specs.Places.{Ranks, record-at, record-in-row, cell-number, candidate-of}
 use Rattle.growth.specs.CellLaws.{candidate-place, candidate-cell, cell-number-below}
 use Rattle.growth.specs.CountingExtensions.{All-patterns}
 use Rattle.growth.specs.Counted.{Extending, rows-extending, first-extending, Candidate, candidate-at, candidate-pattern}
-use Rattle.growth.specs.ListedBy.{Chosen-places, place-in, records-at, chosen-places, chosen-rise}
+use Rattle.growth.specs.ListedBy.{place-in, chosen-places, chosen-rise}
 use Rattle.growth.specs.Output.{Ahead}
 use Rattle.growth.specs.Walking.{Gives, passed, Ahead-of, ahead-walked, listed-next}
-use Rattle.readings.specs.declared.reading.Reading as held
 use Rattle.growing.specs.declared.grow.Growth.{Growth}
 use Rattle.growing.specs.declared.grow.Growth.the-variants.{To, Full}
 use Rattle.growing.specs.declared.grow.Settings.{Settings}
 use Rattle.walks.specs.LabelMarks.{drawings-of}
 use Rattle.walks.specs.PreparedLaws.{drawings-counted, prepared-few, prepared-patterns}
-use Rattle.walks.specs.Counts.{Blank}
 use Rattle.laws.specs.Parts.{part}
-use Rattle.walks.specs.Choices.{List-kept}
 use Rattle.laws.specs.PartLaws.{part-none, part-snoc, part-split, part-has}
-use Rattle.candidates.specs.HeldCode.{records-of, basis, Can-read, Can-grow, Grows}
-use Rattle.candidates.specs.HeldCodeLaws.{records-length}
+use Rattle.candidates.specs.HeldCode.{basis, Can-read, Kinds-held, Code-held, Code-kept, Can-append}
+use Rattle.candidates.specs.HeldCodeLaws.{records-kept, kinds-kept, held-kept}
 use Rattle.walks.specs.Hopes.{Can-look, Hopeless-if}
 use Rattle.walks.specs.HopeLaws.{grown-well}
 use Rattle.codes.specs.OwnNumbering.{Well-grown}
@@ -78,20 +77,17 @@ basis-extending :
 basis-extending patterns o k [] h = first-extending patterns o k
 basis-extending patterns o k (r ∷ rs) h = rows-extending patterns o r rs h
 
-module _ {survey labels rank alphabet : List ℕ} {g : Settings} {h : held.Reading} {kind : ℕ} {cells seen list : List ℕ} {from top : ℕ} {out : List ℕ}
-    {count : ℕ} (a : Can-walk-candidates survey labels rank alphabet g h kind cells seen list from top out count) where
+module _ {survey labels rank alphabet : List ℕ} {g : Settings} {γ : List Rec} {kind : ℕ} {cells seen list : List ℕ} {from top : ℕ} {out : List ℕ}
+    {count : ℕ} (a : Can-walk-candidates survey labels rank alphabet g γ kind cells seen list from top out count) where
   abbrev ds : List Drawing
   ds = drawings-of survey
-
-  abbrev γ : List Rec
-  γ = records-of h
 
   abbrev Wanted : List Rec → Type 0
   Wanted = Frequent kinds-before (drawings-of survey) (g .threshold)
 
   -- the records of the candidates from `from` up to k
   abbrev up-to : ℕ → List Rec
-  up-to k = candidates-in kind (records-of h) alphabet (g .labels) (part from k list)
+  up-to k = candidates-in kind γ alphabet (g .labels) (part from k list)
 
   sets-few : (p : ℕ) → length (a .sets p) ≤ 32
   sets-few p = omega (arith, a .counting .size p, drawings-counted survey, prepared-few (a .set-up .prepared))
@@ -99,12 +95,12 @@ module _ {survey labels rank alphabet : List ℕ} {g : Settings} {h : held.Readi
   within : top ≤ length list
   within = omega (arith, a .at-hand .room, a .at-hand .list-size, a .more, a .set-up .small)
 
-  extending : Extending (drawings-of survey) rank alphabet (g .labels) (records-of h) (basis kind (records-of h)) (Fit kind (records-of h))
+  extending : Extending (drawings-of survey) rank alphabet (g .labels) γ (basis kind γ) (Fit kind γ)
   extending =
       basis-extending (prepared-patterns (a .set-up .prepared)) (a .set-up .prepared .ranks) kind γ
-      (omega (arith, records-length h, a .more, a .set-up .small))
+      (omega (arith, a .more, a .set-up .small))
 
-  rising : Rises (rec-before-by kinds-before) (candidates-in kind (records-of h) alphabet (g .labels) (part from top list))
+  rising : Rises (rec-before-by kinds-before) (candidates-in kind γ alphabet (g .labels) (part from top list))
   rising =
       chosen-rise (a .set-up .prepared .ranks) extending (a .counting) (a .set-up .one)
       (chosen-places (a .sets) (g .threshold) (g .labels) (part from top list) sets-few (a .chosen))
@@ -115,7 +111,7 @@ module _ {survey labels rank alphabet : List ℕ} {g : Settings} {h : held.Readi
     place-at = q / (2 ^ 40)
 
     abbrev next : Rec
-    next = record-at (basis kind (records-of h)) alphabet (g .labels) (q / (2 ^ 40))
+    next = record-at (basis kind γ) alphabet (g .labels) (q / (2 ^ 40))
 
     listed-cell : (p : ℕ) × (candidate-of p (cell-number (a .sets p)) ≡ q) × (g .threshold ≤ count-true (a .sets p))
     listed-cell = a .chosen .often q (mem-eq (sym there) (part-has from top list within k low high))
@@ -142,10 +138,10 @@ module _ {survey labels rank alphabet : List ℕ} {g : Settings} {h : held.Readi
     some-label : 0 < g .labels
     some-label = omega (arith, candidate .below)
 
-    pub walk-reads : Can-read h kind rank alphabet (g .labels) (q / (2 ^ 40))
+    pub walk-reads : Can-read γ kind rank alphabet (g .labels) (q / (2 ^ 40))
     walk-reads =
         record {
-          holding = a .holding;
+          accepted = a .accepted;
           labels = a .set-up .prepared .ranks .most;
           placed = candidate .placed;
           place-is = candidate .place-is;
@@ -156,33 +152,49 @@ module _ {survey labels rank alphabet : List ℕ} {g : Settings} {h : held.Readi
           some = some-label;
         }
 
-    fits-accepted : rows-refusal fresh (snoc (records-of h) (record-at (basis kind (records-of h)) alphabet (g .labels) (q / (2 ^ 40)))) ≡ 0
+    fits-accepted : rows-refusal fresh (snoc γ (record-at (basis kind γ) alphabet (g .labels) (q / (2 ^ 40)))) ≡ 0
     fits-accepted = extending .grown (candidate .drawing) next (candidate .fits) .accepted
 
-    pub walk-grows : (e : Rec) → e ≡ record-at (basis kind (records-of h)) alphabet (g .labels) (q / (2 ^ 40)) → Can-grow h e
-    walk-grows e is =
-        record {
-          holding = a .holding;
-          room = omega (arith, a .more, a .set-up .small);
-          accepted = subst (λ (x : Rec). rows-refusal fresh (snoc γ x) ≡ 0) (sym is) fits-accepted;
-        }
-
-    drawn : is-pattern (decoded (snoc (records-of h) (record-at (basis kind (records-of h)) alphabet (g .labels) (q / (2 ^ 40))))) ≡ true
+    drawn : is-pattern (decoded (snoc γ (record-at (basis kind γ) alphabet (g .labels) (q / (2 ^ 40))))) ≡ true
     drawn =
         candidate-pattern extending (a .counting) (prepared-patterns (a .set-up .prepared))
-        (omega (arith, records-length h, a .more, a .set-up .small)) place-at
+        (omega (arith, a .more, a .set-up .small)) place-at
         candidate
 
-    pub walk-looks :
-        (e : Rec) → e ≡ record-at (basis kind (records-of h)) alphabet (g .labels) (q / (2 ^ 40)) → Can-look (h .code .records) (h .code .count) e
-    walk-looks e is =
-        subst (Can-look (h .code .records) (h .code .count)) (sym is)
-        (record { room = omega (arith, a .more, a .set-up .small); accepted = fits-accepted; drawn = drawn })
+    -- in place: the array's code is the one under work
+    module _ (code : List ℕ) (m : ℕ) (same : recs-in m code ≡ γ) (e : Rec)
+        (is : e ≡ record-at (basis kind γ) alphabet (g .labels) (q / (2 ^ 40))) where
+      pub grown-is : snoc (recs-in m code) e ≡ snoc γ (record-at (basis kind γ) alphabet (g .labels) (q / (2 ^ 40)))
+      grown-is = ap₂ {C = List Rec} (λ rs r. snoc rs r) same is
 
-    module _ {r : held.Reading} (t : Grows h (record-at (basis kind (records-of h)) alphabet (g .labels) (q / (2 ^ 40))) r) where
-      held-candidate : Candidate-held (drawings-of survey) (g .threshold) (records-of r) (q % (2 ^ 40))
+      room-left : m < 20
+      room-left = omega (arith, ap length same, recs-in-length m code, a .more, a .set-up .small)
+
+      accepted-next : rows-refusal fresh (snoc (recs-in m code) e) ≡ 0
+      accepted-next = ap (rows-refusal fresh) grown-is ∙ fits-accepted
+
+      pub walk-looks : Can-look code m e
+      walk-looks = record { room = room-left; accepted = accepted-next; drawn = ap (λ (rs : List Rec). is-pattern (decoded rs)) grown-is ∙ drawn }
+
+      pub walk-appends : {kinds : List ℕ} {n : ℕ} → Code-held code kinds m n → Can-append code kinds m n e
+      walk-appends h = record { room = room-left; accepted = accepted-next; held = h }
+
+      -- the look ahead: yes, and the code grown is not the least
+      pub walk-hopeless : {b : Bool} → b ≡ true → Hopeless-if code m e b
+          → Least (decoded (snoc γ (record-at (basis kind γ) alphabet (g .labels) (q / (2 ^ 40)))))
+          (snoc γ (record-at (basis kind γ) alphabet (g .labels) (q / (2 ^ 40)))) → ⊥
+      walk-hopeless told look l = look .not-least told (subst (λ (rs : List Rec). Least (decoded rs) rs) (sym grown-is) l)
+
+      -- no, and it overlooks none, so that the code grows well
+      pub walk-well : Hopeless-if code m e false → Well-grown (snoc γ (record-at (basis kind γ) alphabet (g .labels) (q / (2 ^ 40))))
+      walk-well look =
+          subst Well-grown grown-is
+          (grown-well code m e (subst (λ (rs : List Rec). Greedy kinds-before (decoded rs) [] rs) (sym same) (a .greedy)) (look .hopeful refl))
+
+    module _ {δ : List Rec} (t : δ ≡ snoc γ (record-at (basis kind γ) alphabet (g .labels) (q / (2 ^ 40)))) where
+      held-candidate : Candidate-held (drawings-of survey) (g .threshold) δ (q % (2 ^ 40))
       held-candidate =
-          subst (λ (c : List Rec). Candidate-held ds (g .threshold) c (q % (2 ^ 40))) (sym (t .records))
+          subst (λ (c : List Rec). Candidate-held ds (g .threshold) c (q % (2 ^ 40))) (sym t)
           (record {
             accepted = fits-accepted;
             drawn = drawn;
@@ -190,44 +202,35 @@ module _ {survey labels rank alphabet : List ℕ} {g : Settings} {h : held.Readi
             cell-is = cell-is ∙ ap cell-number (candidate .containing-is);
           })
 
-      -- it overlooks none, so the code grows well
-      well-next :
-          (e : Rec) → e ≡ record-at (basis kind (records-of h)) alphabet (g .labels) (q / (2 ^ 40))
-          → Hopeless-if (h .code .records) (h .code .count) e false → Well-grown (records-of r)
-      well-next e is look =
-          subst Well-grown (ap (λ (x : Rec). snoc γ x) is ∙ sym (t .records))
-          (grown-well (h .code .records) (h .code .count) e (a .greedy) (look .hopeful refl))
-
       pub walk-grows-on :
-          {cells₁ seen₁ list₁ out₁ : List ℕ} {written : ℕ} (e : Rec)
-          → e ≡ record-at (basis kind (records-of h)) alphabet (g .labels) (q / (2 ^ 40))
-          → Hopeless-if (h .code .records) (h .code .count) e false → On-the-way survey alphabet g kind
-          (records-of h) list from top out count k cells₁ seen₁ list₁ out₁ written
-          → Can-grow-pattern survey labels rank alphabet g r (q % (2 ^ 40)) cells₁ seen₁ list₁ top out₁ written
-      walk-grows-on e is look w =
+          {cells₁ seen₁ list₁ out₁ : List ℕ} {written : ℕ}
+          → Well-grown (snoc γ (record-at (basis kind γ) alphabet (g .labels) (q / (2 ^ 40))))
+          → On-the-way survey alphabet g kind γ list from top out count k cells₁ seen₁ list₁ out₁ written
+          → Can-grow-pattern survey labels rank alphabet g δ (q % (2 ^ 40)) cells₁ seen₁ list₁ top out₁ written
+      walk-grows-on well w =
+          let size : length δ ≡ suc (length γ) = ap length t ∙ snoc-length γ next in
           record {
             set-up = a .set-up;
-            holding = t .holding;
-            some = omega (arith, t .count);
-            most = omega (arith, t .count, a .more);
+            some = omega arith;
+            most = omega (arith, a .more);
             candidate = held-candidate;
-            well = well-next e is look;
-            at-hand = record { blank = w .blank; list-size = w .kept .size; room = omega (arith, t .count, a .at-hand .room) };
+            well = subst Well-grown (sym t) well;
+            at-hand = record { blank = w .blank; list-size = w .kept .size; room = omega (arith, a .at-hand .room) };
             out-room = w .room;
           }
 
     -- the candidates so far, and this one
-    up-next : candidates-in kind (records-of h) alphabet (g .labels) (part from (k + 1) list)
-        ≡ snoc (candidates-in kind (records-of h) alphabet (g .labels) (part from k list))
-        (record-at (basis kind (records-of h)) alphabet (g .labels) (q / (2 ^ 40)))
+    up-next : candidates-in kind γ alphabet (g .labels) (part from (k + 1) list)
+        ≡ snoc (candidates-in kind γ alphabet (g .labels) (part from k list))
+        (record-at (basis kind γ) alphabet (g .labels) (q / (2 ^ 40)))
     up-next =
         ap (candidates-in kind γ alphabet (g .labels)) (part-snoc from k list low (omega (arith, within)) ∙ ap
         (λ (y : ℕ). snoc (part from k list) y) (sym there))
         ∙ ap (map (record-at (basis kind γ) alphabet (g .labels))) (map-append place-in (part from k list) (q ∷ []))
         ∙ map-append (record-at (basis kind γ) alphabet (g .labels)) (map place-in (part from k list)) (place-at ∷ [])
 
-    split : candidates-in kind (records-of h) alphabet (g .labels) (part from top list)
-        ≡ candidates-in kind (records-of h) alphabet (g .labels) (part from k list) ++ candidates-in kind (records-of h) alphabet
+    split : candidates-in kind γ alphabet (g .labels) (part from top list)
+        ≡ candidates-in kind γ alphabet (g .labels) (part from k list) ++ candidates-in kind γ alphabet
         (g .labels) (part k top list)
     split =
         let e : k + (top - k) ≡ top = omega arith in
@@ -237,22 +240,22 @@ module _ {survey labels rank alphabet : List ℕ} {g : Settings} {h : held.Readi
         ∙ ap (map (record-at (basis kind γ) alphabet (g .labels))) (map-append place-in (part from k list) (part k top list))
         ∙ map-append (record-at (basis kind γ) alphabet (g .labels)) (map place-in (part from k list)) (map place-in (part k top list))
 
-    own : Mem (record-at (basis kind (records-of h)) alphabet (g .labels) (q / (2 ^ 40)))
-        (candidates-in kind (records-of h) alphabet (g .labels) (part k top list))
+    own : Mem (record-at (basis kind γ) alphabet (g .labels) (q / (2 ^ 40)))
+        (candidates-in kind γ alphabet (g .labels) (part k top list))
     own = mem-map (record-at (basis kind γ) alphabet (g .labels))
         (mem-map place-in (mem-eq (sym there) (part-has k top list within k (omega arith) high)))
 
-    later : (x : Rec) → Mem x (candidates-in kind (records-of h) alphabet (g .labels) (part from k list))
-        → rec-before-by kinds-before x (record-at (basis kind (records-of h)) alphabet (g .labels) (q / (2 ^ 40))) ≡ true
+    later : (x : Rec) → Mem x (candidates-in kind γ alphabet (g .labels) (part from k list))
+        → rec-before-by kinds-before x (record-at (basis kind γ) alphabet (g .labels) (q / (2 ^ 40))) ≡ true
     later x m =
         rises-apart (rec-before-by kinds-before) (up-to k) (candidates-in kind γ alphabet (g .labels) (part k top list))
         (subst (Rises (rec-before-by kinds-before)) split rising) x next m own
 
     -- AHEAD of it stands what was listed
-    module _ (cs : List (List Rec)) (b : Ahead-of kinds-before kinds-order (drawings-of survey) (g .threshold) (g .limit) cs (records-of h)
-        (candidates-in kind (records-of h) alphabet (g .labels) (part from top list))) where
-      ahead-so-far : Ahead-of kinds-before kinds-order (drawings-of survey) (g .threshold) (g .limit) cs (records-of h)
-          (candidates-in kind (records-of h) alphabet (g .labels) (part from k list))
+    module _ (cs : List (List Rec)) (b : Ahead-of kinds-before kinds-order (drawings-of survey) (g .threshold) (g .limit) cs γ
+        (candidates-in kind γ alphabet (g .labels) (part from top list))) where
+      ahead-so-far : Ahead-of kinds-before kinds-order (drawings-of survey) (g .threshold) (g .limit) cs γ
+          (candidates-in kind γ alphabet (g .labels) (part from k list))
       ahead-so-far = record {
         done = b .done;
         earlier = λ e m. b .earlier e
@@ -260,21 +263,22 @@ module _ {survey labels rank alphabet : List ℕ} {g : Settings} {h : held.Readi
       }
 
       ahead : (more : List (List Rec))
-          → Listed-by kinds-before kinds-order (Frequent kinds-before (drawings-of survey) (g .threshold)) (g .limit) (records-of h)
-          (candidates-in kind (records-of h) alphabet (g .labels) (part from k list)) more
+          → Listed-by kinds-before kinds-order (Frequent kinds-before (drawings-of survey) (g .threshold)) (g .limit) γ
+          (candidates-in kind γ alphabet (g .labels) (part from k list)) more
           → Ahead kinds-before kinds-order (drawings-of survey) (g .threshold) (g .limit) (cs ++ more)
-          (snoc (records-of h) (record-at (basis kind (records-of h)) alphabet (g .labels) (q / (2 ^ 40))))
+          (snoc γ (record-at (basis kind γ) alphabet (g .labels) (q / (2 ^ 40))))
       ahead more t =
           ahead-walked kinds-before kinds-order ds (g .threshold) (g .limit) cs γ (up-to k) ahead-so-far more t next
           (b .earlier next (rw split (mem-back (up-to k) own))) later
 
     -- PASSED OVER, where its code would not be the least
     pub walk-passed :
-        {cells₁ seen₁ list₁ out₁ : List ℕ} {written : ℕ} (e : Rec) → e ≡ record-at (basis kind (records-of h)) alphabet (g .labels) (q / (2 ^ 40))
-        → (Least (decoded (snoc (records-of h) e)) (snoc (records-of h) e) → ⊥)
-        → On-the-way survey alphabet g kind (records-of h) list from top out count k cells₁ seen₁ list₁ out₁ written
-        → On-the-way survey alphabet g kind (records-of h) list from top out count (k + 1) cells₁ seen₁ list₁ out₁ written
-    walk-passed {out₁ = out₁} {written = written} e is bad w =
+        {cells₁ seen₁ list₁ out₁ : List ℕ} {written : ℕ}
+        → (Least (decoded (snoc γ (record-at (basis kind γ) alphabet (g .labels) (q / (2 ^ 40)))))
+        (snoc γ (record-at (basis kind γ) alphabet (g .labels) (q / (2 ^ 40)))) → ⊥)
+        → On-the-way survey alphabet g kind γ list from top out count k cells₁ seen₁ list₁ out₁ written
+        → On-the-way survey alphabet g kind γ list from top out count (k + 1) cells₁ seen₁ list₁ out₁ written
+    walk-passed {out₁ = out₁} {written = written} bad w =
         record {
           low = omega arith;
           high = omega arith;
@@ -287,11 +291,11 @@ module _ {survey labels rank alphabet : List ℕ} {g : Settings} {h : held.Readi
       where
         step : (cs : List (List Rec)) (old : List ℕ)
             → Lists-more (drawings-of survey) (Listed-by kinds-before kinds-order
-            (Frequent kinds-before (drawings-of survey) (g .threshold)) (g .limit) (records-of h)
-            (candidates-in kind (records-of h) alphabet (g .labels) (part from k list))) cs old out₁ written
+            (Frequent kinds-before (drawings-of survey) (g .threshold)) (g .limit) γ
+            (candidates-in kind γ alphabet (g .labels) (part from k list))) cs old out₁ written
             → Lists-more (drawings-of survey) (Listed-by kinds-before kinds-order
-            (Frequent kinds-before (drawings-of survey) (g .threshold)) (g .limit) (records-of h)
-            (candidates-in kind (records-of h) alphabet (g .labels) (part from (k + 1) list))) cs old out₁ written
+            (Frequent kinds-before (drawings-of survey) (g .threshold)) (g .limit) γ
+            (candidates-in kind γ alphabet (g .labels) (part from (k + 1) list))) cs old out₁ written
         step cs old x =
             record {
               more = x .more;
@@ -299,32 +303,32 @@ module _ {survey labels rank alphabet : List ℕ} {g : Settings} {h : held.Readi
                   subst (λ (es : List Rec). Listed-by kinds-before kinds-order Wanted (g .limit) γ es (x .more)) (sym up-next)
                   (subst (Listed-by kinds-before kinds-order Wanted (g .limit) γ (snoc (up-to k) next)) (append-nil (x .more))
                   (listed-next kinds-before kinds-order ds (g .threshold) (g .limit) γ (up-to k) next (x .more) [] later (x .which)
-                  (passed (λ f. bad (subst (λ (c : Rec). Least (decoded (snoc γ c)) (snoc γ c)) (sym is) (f .least))))));
+                  (passed (λ f. bad (f .least)))));
               lists = x .lists;
               room = x .room;
             }
 
     -- AFTER IT
-    module _ {r : held.Reading} (t : Grows h (record-at (basis kind (records-of h)) alphabet (g .labels) (q / (2 ^ 40))) r)
+    module _ {δ : List Rec} (t : δ ≡ snoc γ (record-at (basis kind γ) alphabet (g .labels) (q / (2 ^ 40))))
         {cells₁ seen₁ list₁ out₁ : List ℕ} {written : ℕ} (w : On-the-way survey alphabet g kind
-        (records-of h) list from top out count k cells₁ seen₁ list₁ out₁ written)
+        γ list from top out count k cells₁ seen₁ list₁ out₁ written)
         {cells₂ seen₂ list₂ out₂ : List ℕ} where
-      outcome : {v : Growth} → Pattern-grown survey g (records-of r) cells₂ seen₂ list₁ top list₂ out₁ written v out₂
+      outcome : {v : Growth} → Pattern-grown survey g δ cells₂ seen₂ list₁ top list₂ out₁ written v out₂
           → (cs : List (List Rec)) (old : List ℕ)
-          → Ahead-of kinds-before kinds-order (drawings-of survey) (g .threshold) (g .limit) cs (records-of h)
-          (candidates-in kind (records-of h) alphabet (g .labels) (part from top list))
+          → Ahead-of kinds-before kinds-order (drawings-of survey) (g .threshold) (g .limit) cs γ
+          (candidates-in kind γ alphabet (g .labels) (part from top list))
           → (m : Lists-more (drawings-of survey) (Listed-by kinds-before kinds-order
-          (Frequent kinds-before (drawings-of survey) (g .threshold)) (g .limit) (records-of h)
-          (candidates-in kind (records-of h) alphabet (g .labels) (part from k list))) cs old out₁ written)
+          (Frequent kinds-before (drawings-of survey) (g .threshold)) (g .limit) γ
+          (candidates-in kind γ alphabet (g .labels) (part from k list))) cs old out₁ written)
           → Outcome (drawings-of survey) (g .threshold) (g .limit)
-          (Gives kinds-before kinds-order (drawings-of survey) (g .threshold) (g .limit) (records-of r)) (cs ++ m .more) old out₂ v
+          (Gives kinds-before kinds-order (drawings-of survey) (g .threshold) (g .limit) δ) (cs ++ m .more) old out₂ v
       outcome u cs old b m =
           u .told (cs ++ m .more) old
-          (subst (Ahead kinds-before kinds-order ds (g .threshold) (g .limit) (cs ++ m .more)) (sym (t .records))
+          (subst (Ahead kinds-before kinds-order ds (g .threshold) (g .limit) (cs ++ m .more)) (sym t)
           (ahead cs b (m .more) (m .which))) (m .lists)
 
-      pub walk-full : Pattern-grown survey g (records-of r) cells₂ seen₂ list₁ top list₂ out₁ written Full out₂
-          → Candidates-walked survey alphabet g kind (records-of h) cells₂ seen₂ list from top list₂ out count Full out₂
+      pub walk-full : Pattern-grown survey g δ cells₂ seen₂ list₁ top list₂ out₁ written Full out₂
+          → Candidates-walked survey alphabet g kind γ cells₂ seen₂ list from top list₂ out count Full out₂
       walk-full u =
           record {
             blank = u .blank;
@@ -334,8 +338,8 @@ module _ {survey labels rank alphabet : List ℕ} {g : Settings} {h : held.Readi
             told = λ cs old b l. outcome u cs old b (w .told cs old b l);
           }
 
-      pub walk-next : {m : ℕ} → Pattern-grown survey g (records-of r) cells₂ seen₂ list₁ top list₂ out₁ written (To m) out₂
-          → On-the-way survey alphabet g kind (records-of h) list from top out count (k + 1) cells₂ seen₂ list₂ out₂ m
+      pub walk-next : {m : ℕ} → Pattern-grown survey g δ cells₂ seen₂ list₁ top list₂ out₁ written (To m) out₂
+          → On-the-way survey alphabet g kind γ list from top out count (k + 1) cells₂ seen₂ list₂ out₂ m
       walk-next {m} u =
           record {
             low = omega arith;
@@ -349,26 +353,26 @@ module _ {survey labels rank alphabet : List ℕ} {g : Settings} {h : held.Readi
         where
           step : (cs : List (List Rec)) (old : List ℕ)
               → (x : Lists-more (drawings-of survey) (Listed-by kinds-before kinds-order
-              (Frequent kinds-before (drawings-of survey) (g .threshold)) (g .limit) (records-of h)
-              (candidates-in kind (records-of h) alphabet (g .labels) (part from k list))) cs old out₁ written)
+              (Frequent kinds-before (drawings-of survey) (g .threshold)) (g .limit) γ
+              (candidates-in kind γ alphabet (g .labels) (part from k list))) cs old out₁ written)
               → Lists-more (drawings-of survey) (Gives kinds-before kinds-order (drawings-of survey) (g .threshold) (g .limit)
-              (records-of r)) (cs ++ x .more) old out₂ m
+              δ) (cs ++ x .more) old out₂ m
               → Lists-more (drawings-of survey) (Listed-by kinds-before kinds-order
-              (Frequent kinds-before (drawings-of survey) (g .threshold)) (g .limit) (records-of h)
-              (candidates-in kind (records-of h) alphabet (g .labels) (part from (k + 1) list))) cs old out₂ m
+              (Frequent kinds-before (drawings-of survey) (g .threshold)) (g .limit) γ
+              (candidates-in kind γ alphabet (g .labels) (part from (k + 1) list))) cs old out₂ m
           step cs old x y =
               record {
                 more = x .more ++ y .more;
                 which =
                     subst (λ (es : List Rec). Listed-by kinds-before kinds-order Wanted (g .limit) γ es (x .more ++ y .more)) (sym up-next)
                     (listed-next kinds-before kinds-order ds (g .threshold) (g .limit) γ (up-to k) next (x .more) (y .more) later (x .which)
-                    (subst (λ (c : List Rec). Gives kinds-before kinds-order ds (g .threshold) (g .limit) c (y .more)) (t .records) (y .which)));
+                    (subst (λ (c : List Rec). Gives kinds-before kinds-order ds (g .threshold) (g .limit) c (y .more)) t (y .which)));
                 lists = subst (λ (c : List (List Rec)). Lists ds c old out₂ m) (append-assoc cs (x .more) (y .more)) (y .lists);
                 room = y .room;
               }
 
   -- THE START AND THE END
-  pub walk-starts : On-the-way survey alphabet g kind (records-of h) list from top out count from cells seen list out count
+  pub walk-starts : On-the-way survey alphabet g kind γ list from top out count from cells seen list out count
   walk-starts =
       record {
         low = omega arith;
@@ -390,8 +394,8 @@ module _ {survey labels rank alphabet : List ℕ} {g : Settings} {h : held.Readi
       }
 
   pub walk-ends : {cells₁ seen₁ list₁ out₁ : List ℕ} {k written : ℕ} → top ≤ k
-      → On-the-way survey alphabet g kind (records-of h) list from top out count k cells₁ seen₁ list₁ out₁ written
-      → Candidates-walked survey alphabet g kind (records-of h) cells₁ seen₁ list from top list₁ out count (To written) out₁
+      → On-the-way survey alphabet g kind γ list from top out count k cells₁ seen₁ list₁ out₁ written
+      → Candidates-walked survey alphabet g kind γ cells₁ seen₁ list from top list₁ out count (To written) out₁
   walk-ends {out₁ = out₁} {k = k} {written = written} e w =
       let z : k ≡ top = omega (arith, w .high) in
       record {
@@ -403,3 +407,19 @@ module _ {survey labels rank alphabet : List ℕ} {g : Settings} {h : held.Readi
             subst (λ (i : ℕ). Lists-more ds (Listed-by kinds-before kinds-order Wanted (g .limit) γ (up-to i)) cs old out₁ written) z
             (w .told cs old b l);
       }
+
+-- IN PLACE: what the walk of the earlier candidates left in front is the code
+module _ {survey labels rank alphabet : List ℕ} {g : Settings} {code kinds : List ℕ} {m n : ℕ} (h : Code-held code kinds m n) {code₁ kinds₁ : List ℕ}
+    (s : Code-kept m n code kinds code₁ kinds₁) {kind : ℕ} {cells seen list : List ℕ} {from top : ℕ} {out : List ℕ} {count : ℕ}
+    (a : Can-walk-candidates survey labels rank alphabet g (recs-in m code) kind cells seen list from top out count) where
+  few : m ≤ 20
+  few = omega (arith, recs-in-length m code, a .more, a .set-up .small)
+
+  pub walk-same : recs-in m code₁ ≡ recs-in m code
+  walk-same = records-kept few (h .sized) s
+
+  pub walk-kinds : Kinds-held (recs-in m code) kinds₁ n
+  walk-kinds = kinds-kept few (h .sized) s (h .met)
+
+  pub walk-held : Code-held code₁ kinds₁ m n
+  walk-held = held-kept few (h .sized) s (h .met)

@@ -20,21 +20,17 @@ use Rattle.growth.specs.ListedBy.{Chosen-cells, place-in, records-at}
 use Rattle.growth.specs.Output.{Done, Ahead}
 use Rattle.growth.specs.Walking.{Gives, Ahead-of}
 use Rattle.growth.specs.Sizes.{places-size, candidates-size}
-use Rattle.readings.specs.declared.reading.Reading as held
 use Rattle.least_seen.specs.Accepting.{Accepted-front}
 use Rattle.growing.specs.declared.grow.Growth.{Growth}
 use Rattle.growing.specs.declared.grow.Growth.the-variants.{To, Full}
 use Rattle.growing.specs.declared.grow.Settings.{Settings}
-use Rattle.growing.specs.declared.grow.Taken.{Taken}
-use Rattle.growing.specs.declared.grow.Taken.the-variants as taken
-use Rattle.growing.specs.declared.grow.Taken.the-variants.{Passed, Written}
 use Rattle.laws.specs.PutRecords.{put-record}
 use Rattle.walks.specs.LabelMarks.{drawings-of}
 use Rattle.walks.specs.Prepared.{Prepared}
 use Rattle.walks.specs.Counts.{Blank}
 use Rattle.laws.specs.Parts.{part}
 use Rattle.walks.specs.Choices.{List-kept}
-use Rattle.candidates.specs.HeldCode.{records-of, Holding, basis}
+use Rattle.candidates.specs.HeldCode.{basis}
 
 -- WHAT STAYS THE SAME: the survey prepared, a threshold and a size limit within their bounds
 pub record Set-up (survey labels rank alphabet : List ℕ) (g : Settings) : Type 0 where
@@ -49,35 +45,6 @@ pub record At-hand (cells seen list : List ℕ) (base level : ℕ) : Type 0 wher
   pub list-size : length list ≡ candidates-size
   pub room : base ≤ places-size * level
 
--- A CANDIDATE IS TAKEN UP: an accepted code of at most 8 records that grew well, and room for the entries before its own
-pub record Can-take-candidate (code : List ℕ) (m n cell : ℕ) (out : List ℕ) (count : ℕ) : Type 0 where
-  pub front : Accepted-front code m n
-  pub well : Well-grown (recs-in m code)
-  pub most : m ≤ 8
-  pub few : cell / (2 ^ 32) ≤ 32
-  pub out-room : 42 * count ≤ length out
-
--- its code is the least, and its entry, with as many drawings as its cell counts, stands in the output
-pub record Entry-put (γ : List Rec) (cell count : ℕ) (out out-now : List ℕ) : Type 0 where
-  pub least : Least (decoded γ) γ
-  pub room : 42 * count + 42 ≤ length out
-  pub low : count + 1 < 2 ^ 64
-  pub is : out-now ≡ put-record 42 count (entry-bytes (entry (cell / (2 ^ 32)) γ)) out
-
-pub record No-room (γ : List Rec) (count : ℕ) (out out-now : List ℕ) : Type 0 where
-  pub least : Least (decoded γ) γ
-  pub short : length out < 42 * count + 42
-  pub same : out-now ≡ out
-
-pub record Not-least (γ : List Rec) (out out-now : List ℕ) : Type 0 where
-  pub not-least : Least (decoded γ) γ → ⊥
-  pub same : out-now ≡ out
-
-abbrev pub Candidate-taken : (γ : List Rec) (cell count : ℕ) → (out : List ℕ) → Taken → (out-now : List ℕ) → Type 0
-Candidate-taken γ cell count out Passed z = Not-least γ out z
-Candidate-taken γ cell count out taken.Full z = No-room γ count out z
-Candidate-taken γ cell count out Written z = Entry-put γ cell count out z
-
 -- THE CODE THAT IS TO GROW describes a pattern that enough drawings contain; its cell tells which
 pub record Candidate-held (ds : List Drawing) (s : ℕ) (γ : List Rec) (cell : ℕ) : Type 0 where
   pub accepted : rows-refusal fresh γ ≡ 0
@@ -85,15 +52,14 @@ pub record Candidate-held (ds : List Drawing) (s : ℕ) (γ : List Rec) (cell : 
   pub often : s ≤ support (decoded γ) ds
   pub cell-is : cell ≡ cell-number (containing (decoded γ) ds)
 
-pub record Can-grow-pattern (survey labels rank alphabet : List ℕ) (g : Settings) (h : held.Reading) (cell : ℕ) (cells seen list : List ℕ) (base : ℕ)
+pub record Can-grow-pattern (survey labels rank alphabet : List ℕ) (g : Settings) (γ : List Rec) (cell : ℕ) (cells seen list : List ℕ) (base : ℕ)
     (out : List ℕ) (count : ℕ) : Type 0 where
   pub set-up : Set-up survey labels rank alphabet g
-  pub holding : Holding h
-  pub some : 1 ≤ h .code .count
-  pub most : h .code .count ≤ g .limit
-  pub candidate : Candidate-held (drawings-of survey) (g .threshold) (records-of h) cell
-  pub well : Well-grown (records-of h)
-  pub at-hand : At-hand cells seen list base (h .code .count)
+  pub some : 1 ≤ length γ
+  pub most : length γ ≤ g .limit
+  pub candidate : Candidate-held (drawings-of survey) (g .threshold) γ cell
+  pub well : Well-grown γ
+  pub at-hand : At-hand cells seen list base (length γ)
   pub out-room : 42 * count ≤ length out
 
 -- WHAT IS WRITTEN: the codes listed so far, as entries at the front of the output
@@ -147,19 +113,19 @@ Fit k (r ∷ rs) = Grown (r ∷ rs)
 abbrev pub candidates-in : (kind : ℕ) → List Rec → (alphabet : List ℕ) (n : ℕ) → (candidates : List ℕ) → List Rec
 candidates-in k γ alphabet n qs = records-at (basis k γ) alphabet n (map place-in qs)
 
-pub record Can-walk-candidates (survey labels rank alphabet : List ℕ) (g : Settings) (h : held.Reading) (kind : ℕ)
+pub record Can-walk-candidates (survey labels rank alphabet : List ℕ) (g : Settings) (γ : List Rec) (kind : ℕ)
     (cells seen list : List ℕ) (from top : ℕ)
     (out : List ℕ) (count : ℕ) : Type 0 where
   pub set-up : Set-up survey labels rank alphabet g
-  pub holding : Holding h
-  pub more : h .code .count < g .limit
-  pub greedy : Greedy kinds-before (decoded (records-of h)) [] (records-of h)
+  pub accepted : rows-refusal fresh γ ≡ 0
+  pub more : length γ < g .limit
+  pub greedy : Greedy kinds-before (decoded γ) [] γ
   pub sets : ℕ → List Bool
   pub counting :
-      Counting (place-of rank (g .labels)) (Fit kind (records-of h)) (drawings-of survey) (length (drawings-of survey)) sets
+      Counting (place-of rank (g .labels)) (Fit kind γ) (drawings-of survey) (length (drawings-of survey)) sets
   pub chosen : Chosen-cells sets (g .threshold) (g .labels) (part from top list)
   pub low : from ≤ top
-  pub at-hand : At-hand cells seen list top (suc (h .code .count))
+  pub at-hand : At-hand cells seen list top (suc (length γ))
   pub out-room : 42 * count ≤ length out
 
 -- AFTER WALKING the candidates qs

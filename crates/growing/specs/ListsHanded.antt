@@ -1,6 +1,6 @@
 -- Lists of embeddings handed from a pattern to its extensions: what growing and walking ask of them, and that they stay. Rests on
 -- EmbeddingListLaws. Assumes nothing.
-use mathlib.Core.Path.{_≡_, refl, sym, ap, _∙_, subst}
+use mathlib.Core.Path.{_≡_, sym, ap, _∙_, subst}
 use mathlib.Core.Bool.{Bool, true}
 use mathlib.Core.List.{List, [], _∷_}
 use Prim.Native.Nat.{ℕ, _+_, _-_, _≤_, _<_}
@@ -10,17 +10,13 @@ use lib.Seq.{take-append-seam}
 use Rattle.laws.specs.Lists.{snoc}
 use Rattle.graphs.specs.Drawing.{Drawing}
 use Rattle.codes.specs.Code.{Rec, recs-in}
-use Rattle.readings.specs.declared.reading.Reading as held
 use Rattle.growing.specs.declared.grow.Settings.{Settings}
 use Rattle.walks.specs.LabelMarks.{drawings-of}
-use Rattle.walks.specs.Counts.{Can-count}
 use Rattle.walks.specs.PreparedLaws.{drawings-counted, prepared-few}
 use Rattle.walks.specs.EmbeddingLists.{level-top, Lists-sized, Level-listed, Lists-kept}
-use Rattle.walks.specs.EmbeddingRows.{Can-list-if, Level-made}
-use Rattle.walks.specs.EmbeddingListLaws.{level-listed-kept, lists-kept-then, lists-kept-again, lists-kept-same}
-use Rattle.candidates.specs.HeldCode.{records-of, Grows}
-use Rattle.candidates.specs.HeldCodeLaws.{records-length}
-use Rattle.growing.specs.GrowthOutcomes.{Set-up, Can-grow-pattern, Can-walk-candidates}
+use Rattle.walks.specs.EmbeddingRows.{Level-made}
+use Rattle.walks.specs.EmbeddingListLaws.{level-listed-kept, lists-kept-then, lists-kept-again}
+use Rattle.growing.specs.GrowthOutcomes.{Set-up}
 
 -- BEFORE A CODE OF m RECORDS GROWS: where `listed` says so, the level of the code without its last record is whole
 pub record Lists-below (ds : List Drawing) (γ : List Rec) (m : ℕ) (listed : Bool) (kept ends : List ℕ) : Type 0 where
@@ -51,33 +47,29 @@ front : (xs : List Rec) (x : Rec) (m : ℕ) → length xs ≡ m → take m (snoc
 front xs x m e = ap (λ (k : ℕ). take k (snoc xs x)) (sym e) ∙ take-append-seam xs (x ∷ [])
 
 -- A CANDIDATE GROWS: its code is the one held with a record more
-module _ {survey labels rank alphabet : List ℕ} {g : Settings} (u : Set-up survey labels rank alphabet g) {h r : held.Reading} {e : Rec}
-    (t : Grows h e r)
-    {listed : Bool} {kept ends kept₁ ends₁ : List ℕ} (a : Lists-at (drawings-of survey) (records-of h) (h .code .count) listed kept ends)
-    (k : Lists-kept (h .code .count + 1) kept ends kept₁ ends₁) where
-  pub lists-grow : Lists-below (drawings-of survey) (records-of r) (r .code .count) listed kept₁ ends₁
+module _ {survey labels rank alphabet : List ℕ} {g : Settings} (u : Set-up survey labels rank alphabet g) {γ δ : List Rec} (e : Rec)
+    (t : δ ≡ snoc γ e) {m : ℕ} (size : length γ ≡ m) {listed : Bool} {kept ends kept₁ ends₁ : List ℕ}
+    (a : Lists-at (drawings-of survey) γ m listed kept ends) (k : Lists-kept (m + 1) kept ends kept₁ ends₁) where
+  pub lists-grow : Lists-below (drawings-of survey) δ (m + 1) listed kept₁ ends₁
   lists-grow =
       record {
         sized = k .sized;
         below = λ l some.
-            let less : h .code .count ≡ r .code .count - 1 = omega (arith, t .count) in
-            subst (λ (m : ℕ). Level-listed (drawings-of survey) (take m (records-of r)) m kept₁ ends₁) less
-            (subst (λ (γ : List Rec). Level-listed (drawings-of survey) γ (h .code .count) kept₁ ends₁) (sym shorter)
-            (level-listed-kept (a .sized) k (h .code .count) (omega arith) (omega (arith, drawings-counted survey, prepared-few (u .prepared))) under
-            (a .at l (omega (arith, t .count)))));
+            let less : m ≡ m + 1 - 1 = omega arith in
+            subst (λ (i : ℕ). Level-listed (drawings-of survey) (take i δ) i kept₁ ends₁) less
+            (subst (λ (β : List Rec). Level-listed (drawings-of survey) β m kept₁ ends₁) (sym shorter)
+            (level-listed-kept (a .sized) k m (omega arith) (omega (arith, drawings-counted survey, prepared-few (u .prepared))) under
+            (a .at l (omega arith))));
       }
     where
-      shorter : take (h .code .count) (records-of r) ≡ records-of h
-      shorter = ap (take (h .code .count)) (t .records) ∙ front (records-of h) e (h .code .count) (records-length h)
+      shorter : take m δ ≡ γ
+      shorter = ap (take m) t ∙ front γ e m size
 
-      under : level-top ends (h .code .count) ≤ level-top ends (h .code .count + 1 - 1)
+      under : level-top ends m ≤ level-top ends (m + 1 - 1)
       under =
-          let z : h .code .count ≡ h .code .count + 1 - 1 = omega arith in
-          subst (λ (m : ℕ). level-top ends (h .code .count) ≤ level-top ends m) z (omega arith)
+          let z : m ≡ m + 1 - 1 = omega arith in
+          subst (λ (i : ℕ). level-top ends m ≤ level-top ends i) z (omega arith)
 
   -- after it
-  pub lists-after :
-      {kept₂ ends₂ : List ℕ} → Lists-kept (r .code .count) kept₁ ends₁ kept₂ ends₂
-      → Lists-kept (h .code .count + 1) kept ends kept₂ ends₂
-  lists-after {kept₂} {ends₂} n =
-      lists-kept-again (omega arith) k (subst (λ (m : ℕ). Lists-kept m kept₁ ends₁ kept₂ ends₂) (t .count) n)
+  pub lists-after : {kept₂ ends₂ : List ℕ} → Lists-kept (m + 1) kept₁ ends₁ kept₂ ends₂ → Lists-kept (m + 1) kept ends kept₂ ends₂
+  lists-after n = lists-kept-again (omega arith) k n

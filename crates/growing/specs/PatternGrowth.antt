@@ -1,19 +1,20 @@
 -- Growing a pattern: that it may be taken up, and what is listed when it is passed over, does not fit, is as large as the
 -- limit, or its next cables were walked. Rests on Growths and Walking. Assumes nothing.
 use mathlib.Core.Path.{_≡_, refl, sym, ap, _∙_, subst}
-use mathlib.Core.Bool.{Bool, true}
+use mathlib.Core.Bool.{Bool}
 use mathlib.Core.List.{List, [], _∷_, _++_, map, append-nil, append-assoc}
-use Prim.Native.Nat.{ℕ, suc, _+_, _*_, _/_, _^_, _≤_, _<_}
+use Prim.Native.Nat.{ℕ, _+_, _*_, _/_, _^_, _≤_, _<_}
 use native.Mathlib.Omega.{arith}
-use lib.ListN.{length, getD, drop, length-map}
+use lib.ListN.{length, drop, length-map}
 use lib.Seq.{drop-drop}
 use Rattle.laws.specs.Lists.{Mem, snoc, snoc-length, map-append}
 use Rattle.laws.specs.Selections.{Sent, map-from}
 use Rattle.graphs.specs.Drawing.{Drawing}
 use Rattle.graphs.specs.Map.{contains}
 use Rattle.graphs.specs.Patterns.{pattern-from-test}
-use Rattle.graphs.specs.Survey.{containing, count-true, support}
-use Rattle.codes.specs.Code.{Rec, Reading, fresh, rows-refusal, read-rows, recs-in, decoded, kinds-before, Least}
+use Rattle.graphs.specs.Survey.{containing, support}
+use Rattle.codes.specs.Code.{Rec, recs-in, decoded, kinds-before, Least}
+use Rattle.codes.specs.CodeBytes.{recs-in-length}
 use Rattle.codes.specs.CodeOrder.{kinds-order}
 use Rattle.codes.specs.LeastCode.{least-greedy}
 use Rattle.growth.specs.Catalogue.{Entry, entry, entry-bytes, all-bytes}
@@ -23,45 +24,30 @@ use Rattle.growth.specs.Frequent.{Frequent}
 use Rattle.growth.specs.Places.{place-of}
 use Rattle.growth.specs.CellLaws.{cell-count-is, count-true-bound}
 use Rattle.growth.specs.CountingExtensions.{All-patterns, Grown, Counting}
-use Rattle.growth.specs.ListedBy.{Chosen-places, place-in, records-at, chosen-places, chosen-listed}
+use Rattle.growth.specs.ListedBy.{Chosen-places, place-in, chosen-places, chosen-listed}
 use Rattle.growth.specs.Output.{Done, Ahead, done-snoc, ahead-child}
 use Rattle.growth.specs.Walking.{Gives, passed, taken, Ahead-of, ahead-of-child}
-use Rattle.readings.specs.declared.reading.Reading as held
-use Rattle.readings.specs.Readings as readings
-use Rattle.readings.specs.Readings.{Begun, Sound}
-use Rattle.readings.specs.ReadingLaws.{devices-is}
 use Rattle.growing.specs.declared.grow.Growth.{Growth}
 use Rattle.growing.specs.declared.grow.Growth.the-variants.{To, Full}
 use Rattle.growing.specs.declared.grow.Settings.{Settings}
-use Rattle.growing.specs.declared.grow.Taken.{Taken}
-use Rattle.growing.specs.declared.grow.Taken.the-variants as answers
-use Rattle.growing.specs.declared.grow.Taken.the-variants.{Passed, Written}
+use Rattle.taking.specs.declared.take.Taken.{Taken}
+use Rattle.taking.specs.declared.take.Taken.the-variants as answers
+use Rattle.taking.specs.declared.take.Taken.the-variants.{Passed, Written}
 use Rattle.walks.specs.LabelMarks.{drawings-of}
 use Rattle.laws.specs.PutRecords.{put-record}
 use Rattle.laws.specs.PutRecordLaws.{put-length}
 use Rattle.growth.specs.EntryLaws.{entry-size, entry-behind}
-use Rattle.walks.specs.Prepared.{Prepared, Readied, Counted-cells}
+use Rattle.walks.specs.Prepared.{Counted-cells}
 use Rattle.walks.specs.PreparedLaws.{drawings-counted, prepared-few, prepared-patterns}
-use Rattle.walks.specs.Counts.{Blank, Can-count}
+use Rattle.walks.specs.Counts.{Can-count}
 use Rattle.laws.specs.Parts.{part}
 use Rattle.walks.specs.Choices.{List-kept, Of-sets, Can-choose, Chose}
-use Rattle.candidates.specs.HeldCode.{records-of, basis}
-use Rattle.candidates.specs.HeldCodeLaws.{records-length}
+use Rattle.candidates.specs.HeldCode.{Code-held}
+use Rattle.taking.specs.Taking.{Can-take-candidate, Not-least, No-room, Entry-put, Candidate-taken}
 use Rattle.growing.specs.GrowthOutcomes.{
-  Set-up,
-  At-hand,
-  Can-take-candidate,
-  Not-least,
-  No-room,
-  Entry-put,
-  Candidate-taken,
-  Candidate-held,
   Can-grow-pattern,
   Lists,
-  Lists-more,
-  Too-many,
   Outcome,
-  Room-left,
   Pattern-grown,
   Fit,
   candidates-in,
@@ -124,70 +110,35 @@ pub candidates-listed :
 candidates-listed qs patterns o k [] some few c one h l cs t = absurd (omega arith)
 candidates-listed qs patterns o k (r ∷ rs) some few c one h l cs t = chosen-listed patterns o r rs few c one h l cs t
 
-module _ {survey labels rank alphabet : List ℕ} {g : Settings} {h : held.Reading} {cell : ℕ} {cells seen list : List ℕ} {base : ℕ} {out : List ℕ}
-    {count : ℕ} (a : Can-grow-pattern survey labels rank alphabet g h cell cells seen list base out count) where
+module _ {survey labels rank alphabet : List ℕ} {g : Settings} {γ : List Rec} {cell : ℕ} {cells seen list : List ℕ} {base : ℕ} {out : List ℕ}
+    {count : ℕ} (a : Can-grow-pattern survey labels rank alphabet g γ cell cells seen list base out count) where
   abbrev ds : List Drawing
   ds = drawings-of survey
-
-  abbrev γ : List Rec
-  γ = records-of h
 
   few : length (drawings-of survey) ≤ 32
   few = omega (arith, drawings-counted survey, prepared-few (a .set-up .prepared))
 
-  containing-few : length (containing (decoded (records-of h)) (drawings-of survey)) ≤ 32
+  containing-few : length (containing (decoded γ) (drawings-of survey)) ≤ 32
   unfolding containing
-  containing-few = omega (arith, length-map (drawings-of survey) (contains (decoded (records-of h))), few)
+  containing-few = omega (arith, length-map (drawings-of survey) (contains (decoded γ)), few)
 
-  counted : cell / (2 ^ 32) ≡ support (decoded (records-of h)) (drawings-of survey)
+  counted : cell / (2 ^ 32) ≡ support (decoded γ) (drawings-of survey)
   unfolding support
   counted = ap (λ (k : ℕ). k / (2 ^ 32)) (a .candidate .cell-is) ∙ cell-count-is (containing (decoded γ) ds) containing-few
 
-  short : length (records-of h) ≤ g .limit
-  short = omega (arith, records-length h, a .most)
+  support-few : cell / (2 ^ 32) ≤ 32
+  unfolding support
+  support-few = omega (arith, counted, count-true-bound (containing (decoded γ) ds), containing-few)
 
-  -- IT MAY BE TAKEN UP
-  begun : Begun h
-  begun = go (a .holding .sound)
-    where
-      go : Sound h → Begun h
-      go (readings.not-begun n) = absurd (omega (arith, n .no-record, a .some))
-      go (readings.begun b) = b
-
-  pub grow-takes-up :
-      length (h .code .records) ≡ 100 → length (h .kinds) ≡ 10 → Can-take-candidate (h .code .records) (h .code .count) (h .devices) cell out count
-  grow-takes-up long wide =
-      record {
-        front =
-            record {
-              size = long;
-              one = a .some;
-              most = a .holding .most;
-              accepted = a .candidate .accepted;
-              count = sym (ap (λ (x : Reading). length (x .kinds)) (sym (a .holding .is)) ∙ devices-is h wide begun);
-            };
-        well = a .well;
-        most = omega (arith, a .most, a .set-up .small);
-        few =
-            omega (
-              arith,
-              ap (λ (k : ℕ). k / (2 ^ 32)) (a .candidate .cell-is),
-              cell-count-is (containing (decoded γ) ds) containing-few,
-              count-true-bound (containing (decoded γ) ds),
-              containing-few,
-            );
-        out-room = a .out-room;
-      }
-
-  frequent : Least (decoded (records-of h)) (records-of h) → Frequent kinds-before (drawings-of survey) (g .threshold) (records-of h)
+  frequent : Least (decoded γ) γ → Frequent kinds-before (drawings-of survey) (g .threshold) γ
   frequent l = record { drawn = a .candidate .drawn; least = l; often = a .candidate .often }
 
   same-list : List-kept base list list
   same-list = record { size = a .at-hand .list-size; below = λ k l. refl }
 
   -- PASSED OVER
-  pub grow-passed : (Least (decoded (records-of h)) (records-of h) → ⊥) → (z : List ℕ) → z ≡ out → Pattern-grown survey g
-      (records-of h) cells seen list base list out count (To count) z
+  pub grow-passed : (Least (decoded γ) γ → ⊥) → (z : List ℕ) → z ≡ out → Pattern-grown survey g
+      γ cells seen list base list out count (To count) z
   grow-passed bad z e =
       record {
         blank = a .at-hand .blank;
@@ -205,8 +156,8 @@ module _ {survey labels rank alphabet : List ℕ} {g : Settings} {h : held.Readi
 
   -- NO ROOM
   pub grow-full :
-      Least (decoded (records-of h)) (records-of h) → length out < 42 * count + 42 → (z : List ℕ) → z ≡ out
-      → Pattern-grown survey g (records-of h) cells seen list base list out count Full z
+      Least (decoded γ) γ → length out < 42 * count + 42 → (z : List ℕ) → z ≡ out
+      → Pattern-grown survey g γ cells seen list base list out count Full z
   grow-full l s z e =
       record {
         blank = a .at-hand .blank;
@@ -216,34 +167,34 @@ module _ {survey labels rank alphabet : List ℕ} {g : Settings} {h : held.Readi
         told = λ cs old p t.
             record {
               codes = snoc cs γ;
-              done = done-snoc kinds-before kinds-order ds (g .threshold) (g .limit) cs γ p (frequent l) short;
+              done = done-snoc kinds-before kinds-order ds (g .threshold) (g .limit) cs γ p (frequent l) (a .most);
               long = omega (arith, snoc-length cs γ, t .count-is, ap length e);
             };
       }
 
   -- WRITTEN
-  module _ {mid : List ℕ} (p : Entry-put (records-of h) cell count out mid) where
-    own : mid ≡ put-record 42 count (entry-bytes (entry-for (drawings-of survey) (records-of h))) out
+  module _ {mid : List ℕ} (p : Entry-put γ cell count out mid) where
+    own : mid ≡ put-record 42 count (entry-bytes (entry-for (drawings-of survey) γ)) out
     own = p .is ∙ ap (λ (k : ℕ). put-record 42 count (entry-bytes (entry k γ)) out) counted
 
     mid-size : length mid ≡ length out
     mid-size =
         ap length own
-        ∙ put-length 42 count (entry-bytes (entry-for ds γ)) out (entry-size (entry-for ds γ) (omega (arith, short, a .set-up .small))) (p .room)
+        ∙ put-length 42 count (entry-bytes (entry-for ds γ)) out (entry-size (entry-for ds γ) (omega (arith, a .most, a .set-up .small))) (p .room)
 
     low : (cs : List (List Rec)) → Done kinds-before kinds-order (drawings-of survey) (g .threshold) (g .limit) cs → (c : List Rec)
         → Mem c cs → length c ≤ 8
     low cs d c m = omega (arith, d .right c m .1, a .set-up .small)
 
-    listed : (cs : List (List Rec)) (old : List ℕ) → Ahead kinds-before kinds-order (drawings-of survey) (g .threshold) (g .limit) cs (records-of h)
-        → Lists (drawings-of survey) cs old out count → Lists (drawings-of survey) (snoc cs (records-of h)) old mid (count + 1)
+    listed : (cs : List (List Rec)) (old : List ℕ) → Ahead kinds-before kinds-order (drawings-of survey) (g .threshold) (g .limit) cs γ
+        → Lists (drawings-of survey) cs old out count → Lists (drawings-of survey) (snoc cs γ) old mid (count + 1)
     listed cs old e t = lists-next ds cs γ old out mid count (low cs (e .done)) t own
 
     mid-room : 42 * (count + 1) ≤ length mid
     mid-room = omega (arith, mid-size, p .room)
 
     -- AS LARGE AS THE LIMIT
-    pub grow-leaf : h .code .count ≡ g .limit → Pattern-grown survey g (records-of h) cells seen list base list out count (To (count + 1)) mid
+    pub grow-leaf : length γ ≡ g .limit → Pattern-grown survey g γ cells seen list base list out count (To (count + 1)) mid
     grow-leaf e =
         record {
           blank = a .at-hand .blank;
@@ -253,24 +204,20 @@ module _ {survey labels rank alphabet : List ℕ} {g : Settings} {h : held.Readi
           told = λ cs old q t.
               record {
                 more = γ ∷ [];
-                which = taken (frequent (p .least)) short (listed-leaf kinds-before kinds-order (Frequent kinds-before ds (g .threshold))
-                    (g .limit) γ (omega (arith, records-length h, e)));
+                which = taken (frequent (p .least)) (a .most) (listed-leaf kinds-before kinds-order (Frequent kinds-before ds (g .threshold))
+                    (g .limit) γ (omega arith));
                 lists = listed cs old q t;
                 room = mid-room;
               };
         }
 
     -- SMALLER: its next cables are counted, chosen and walked
-    module _ (smaller : (h .code .count ≡ g .limit → ⊥)) where
-      less : h .code .count < g .limit
+    module _ (smaller : (length γ ≡ g .limit → ⊥)) where
+      less : length γ < g .limit
       less = omega (arith, a .most)
 
-      pub grow-counts : Can-count survey (h .code .records) (h .code .count) cell
-      grow-counts =
-          record { accepted = a .candidate .accepted; some = a .some; few = omega (arith, less, a .set-up .small); cell-is = a .candidate .cell-is }
-
       module _ {cells₁ seen₁ : List ℕ} {found : ℕ}
-          (c : Counted-cells (drawings-of survey) (Grown (records-of h)) rank (g .labels) cells₁ seen₁ found) where
+          (c : Counted-cells (drawings-of survey) (Grown γ) rank (g .labels) cells₁ seen₁ found) where
         sets-few : (p : ℕ) → length (c .sets p) ≤ 32
         sets-few p = omega (arith, c .counting .size p, few)
 
@@ -293,16 +240,16 @@ module _ {survey labels rank alphabet : List ℕ} {g : Settings} {h : held.Readi
           chosen : Rattle.growth.specs.ListedBy.Chosen-cells (c .sets) (g .threshold) (g .labels) (part base top list₂)
           chosen = t .chosen (c .sets) of-sets (g .labels) (a .set-up .prepared .ranks .most)
 
-          pub grow-walks : Can-walk-candidates survey labels rank alphabet g h 0 cells₂ seen₁ list₂ base top mid (count + 1)
+          pub grow-walks : Can-walk-candidates survey labels rank alphabet g γ 0 cells₂ seen₁ list₂ base top mid (count + 1)
           grow-walks =
               record {
                 set-up = a .set-up;
-                holding = a .holding;
+                accepted = a .candidate .accepted;
                 more = less;
                 greedy =
                     least-greedy kinds-before kinds-order (decoded γ) (pattern-from-test (decoded γ) (a .candidate .drawn)) γ (p .least);
                 sets = c .sets;
-                counting = fit-grown 0 γ (omega (arith, records-length h, a .some)) (c .counting);
+                counting = fit-grown 0 γ (a .some) (c .counting);
                 chosen = chosen;
                 low = t .low;
                 at-hand = record { blank = t .blank; list-size = t .kept .size; room = omega (arith, t .high, a .at-hand .room) };
@@ -311,8 +258,8 @@ module _ {survey labels rank alphabet : List ℕ} {g : Settings} {h : held.Readi
 
           pub grow-went :
               {cells₃ seen₃ list₃ z : List ℕ} {r : Growth} → Candidates-walked survey alphabet g 0
-              (records-of h) cells₃ seen₃ list₂ base top list₃ mid (count + 1) r z
-              → Pattern-grown survey g (records-of h) cells₃ seen₃ list base list₃ out count r z
+              γ cells₃ seen₃ list₂ base top list₃ mid (count + 1) r z
+              → Pattern-grown survey g γ cells₃ seen₃ list base list₃ out count r z
           grow-went {z = z} {r = r} w =
               record {
                 blank = w .blank;
@@ -323,36 +270,66 @@ module _ {survey labels rank alphabet : List ℕ} {g : Settings} {h : held.Readi
                     go cs old r (w .told (snoc cs γ) old (ahead cs q) (listed cs old q u));
               }
             where
-              ahead : (cs : List (List Rec)) → Ahead kinds-before kinds-order (drawings-of survey) (g .threshold) (g .limit) cs (records-of h)
-                  → Ahead-of kinds-before kinds-order (drawings-of survey) (g .threshold) (g .limit) (snoc cs (records-of h)) (records-of h)
-                  (candidates-in 0 (records-of h) alphabet (g .labels) (part base top list₂))
+              ahead : (cs : List (List Rec)) → Ahead kinds-before kinds-order (drawings-of survey) (g .threshold) (g .limit) cs γ
+                  → Ahead-of kinds-before kinds-order (drawings-of survey) (g .threshold) (g .limit) (snoc cs γ) γ
+                  (candidates-in 0 γ alphabet (g .labels) (part base top list₂))
               ahead cs q =
                   ahead-of-child kinds-before kinds-order ds (g .threshold) (g .limit) cs γ _
-                  (done-snoc kinds-before kinds-order ds (g .threshold) (g .limit) cs γ q (frequent (p .least)) short)
-                  (λ e. ahead-child kinds-before kinds-order ds (g .threshold) (g .limit) cs γ e q (frequent (p .least)) short)
+                  (done-snoc kinds-before kinds-order ds (g .threshold) (g .limit) cs γ q (frequent (p .least)) (a .most))
+                  (λ e. ahead-child kinds-before kinds-order ds (g .threshold) (g .limit) cs γ e q (frequent (p .least)) (a .most))
 
               all : (more : List (List Rec))
-                  → Listed-by kinds-before kinds-order (Frequent kinds-before (drawings-of survey) (g .threshold)) (g .limit) (records-of h)
-                  (candidates-in 0 (records-of h) alphabet (g .labels) (part base top list₂)) more
-                  → Listed kinds-before kinds-order (Frequent kinds-before (drawings-of survey) (g .threshold)) (g .limit) (records-of h) more
+                  → Listed-by kinds-before kinds-order (Frequent kinds-before (drawings-of survey) (g .threshold)) (g .limit) γ
+                  (candidates-in 0 γ alphabet (g .labels) (part base top list₂)) more
+                  → Listed kinds-before kinds-order (Frequent kinds-before (drawings-of survey) (g .threshold)) (g .limit) γ more
               all more =
                   candidates-listed (part base top list₂) (prepared-patterns (a .set-up .prepared)) (a .set-up .prepared .ranks) 0 γ
-                  (omega (arith, records-length h, a .some))
-                  (omega (arith, records-length h, less, a .set-up .small))
-                  (fit-grown 0 γ (omega (arith, records-length h, a .some)) (c .counting)) (a .set-up .one)
+                  (a .some)
+                  (omega (arith, less, a .set-up .small))
+                  (fit-grown 0 γ (a .some) (c .counting)) (a .set-up .one)
                   (chosen-places (c .sets) (g .threshold) (g .labels) (part base top list₂) sets-few chosen) (g .limit) more
 
               go : (cs : List (List Rec)) (old : List ℕ) (r : Growth)
                   → Outcome (drawings-of survey) (g .threshold) (g .limit)
-                  (Listed-by kinds-before kinds-order (Frequent kinds-before (drawings-of survey) (g .threshold)) (g .limit) (records-of h)
-                  (candidates-in 0 (records-of h) alphabet (g .labels) (part base top list₂))) (snoc cs (records-of h)) old z r
+                  (Listed-by kinds-before kinds-order (Frequent kinds-before (drawings-of survey) (g .threshold)) (g .limit) γ
+                  (candidates-in 0 γ alphabet (g .labels) (part base top list₂))) (snoc cs γ) old z r
                   → Outcome (drawings-of survey) (g .threshold) (g .limit)
-                  (Gives kinds-before kinds-order (drawings-of survey) (g .threshold) (g .limit) (records-of h)) cs old z r
+                  (Gives kinds-before kinds-order (drawings-of survey) (g .threshold) (g .limit) γ) cs old z r
               go cs old (To k) m =
                   record {
                     more = γ ∷ m .more;
-                    which = taken (frequent (p .least)) short (all (m .more) (m .which));
+                    which = taken (frequent (p .least)) (a .most) (all (m .more) (m .which));
                     lists = subst (λ (xs : List (List Rec)). Lists ds xs old z k) (append-assoc cs (γ ∷ []) (m .more)) (m .lists);
                     room = m .room;
                   }
               go cs old Full m = m
+
+-- IN PLACE: a code of m records in front of an array
+module _ {survey labels rank alphabet : List ℕ} {g : Settings} {code kinds : List ℕ} {m n : ℕ} (h : Code-held code kinds m n) {cell : ℕ}
+    {cells seen list : List ℕ} {base : ℕ} {out : List ℕ} {count : ℕ}
+    (a : Can-grow-pattern survey labels rank alphabet g (recs-in m code) cell cells seen list base out count) where
+  pub grow-takes-up : Can-take-candidate code m n cell out count
+  grow-takes-up =
+      record {
+        front =
+            record {
+              size = h .sized .long;
+              one = omega (arith, recs-in-length m code, a .some);
+              most = omega (arith, recs-in-length m code, a .most, a .set-up .small);
+              accepted = a .candidate .accepted;
+              count = h .met .count;
+            };
+        well = a .well;
+        most = omega (arith, recs-in-length m code, a .most, a .set-up .small);
+        few = support-few a;
+        out-room = a .out-room;
+      }
+
+  pub grow-counts : (m ≡ g .limit → ⊥) → Can-count survey code m cell
+  grow-counts smaller =
+      record {
+        accepted = a .candidate .accepted;
+        some = omega (arith, recs-in-length m code, a .some);
+        few = omega (arith, recs-in-length m code, a .most, a .set-up .small);
+        cell-is = a .candidate .cell-is;
+      }

@@ -13,14 +13,11 @@ use Rattle.codes.specs.Code.{Rec, rec-in, recs-in, kinds-before}
 use Rattle.codes.specs.CodeOrder.{kinds-order}
 use Rattle.codes.specs.CodeBytes.{recs-in-length}
 use Rattle.codes.specs.Searched.{Best, Chosen, begun, kept, lowered}
-use Rattle.records.specs.declared.code.Code.{Code}
 use Rattle.tables.specs.declared.«record».Order.{Order}
 use Rattle.tables.specs.declared.«record».Order.the-variants.{Before, Equal, After}
 use Rattle.tables.specs.Records.{order-of}
-use Rattle.readings.specs.Readings.{held-records}
 use Rattle.tables.specs.RecordLaws.{order-before, order-equal, order-after}
 use Rattle.least_code.specs.Searches.{
-  rows-to,
   Against,
   nothing-there,
   comes-before,
@@ -73,8 +70,8 @@ module _ (bs : List ℕ) where
 
 -- the rows that the best begins with are its first records
 pub best-begins :
-    (d : Drawing) (δ : List Rec) (c : Code) (k : ℕ) → Best kinds-before kinds-order d δ (held-records c) → length δ ≡ k → rows-to k c ≡ δ
-best-begins d δ c k b size = first-records (c .records) (c .count) k δ (b .rest) (b .is) size
+    (d : Drawing) (δ : List Rec) (bs : List ℕ) (n k : ℕ) → Best kinds-before kinds-order d δ (recs-in n bs) → length δ ≡ k → recs-in k bs ≡ δ
+best-begins d δ bs n k b size = first-records bs n k δ (b .rest) (b .is) size
 
 -- what does not come before the best leaves it
 pub chosen-kept : (o : Order) (γ : List Rec) (e : Rec) (best : List Rec) → (o ≡ Before → ⊥) → best ≡ chosen-rows o γ e best

@@ -1,36 +1,46 @@
 -- A search below a branch, call by call: the laws of SearchLaws and SearchWays for the codes that the program holds.
 -- Assumes nothing.
-use mathlib.Core.Path.{_≡_, _∙_}
-use mathlib.Core.List.{List}
+use mathlib.Core.Path.{_≡_, refl, sym, ap, _∙_}
+use mathlib.Core.List.{List, [], _∷_, append-assoc}
 use Prim.Native.Nat.{ℕ, _+_, _≤_, _<_}
 use native.Mathlib.Omega.{arith}
 use lib.ListN.{length}
 use Rattle.laws.specs.Lists.{snoc, snoc-length}
 use Rattle.graphs.specs.Drawing.{drawing-in}
-use Rattle.codes.specs.Code.{Rec, kinds-before}
+use Rattle.codes.specs.Code.{Rec, recs-in, kinds-before}
 use Rattle.codes.specs.CodeOrder.{kinds-order}
 use Rattle.codes.specs.CodeBytes.{recs-in-length}
-use Rattle.codes.specs.Searched.{Ties, Chosen, chosen-best}
-use Rattle.codes.specs.BranchState.{State}
-use Rattle.records.specs.declared.code.Code.{Code}
+use Rattle.codes.specs.Searched.{Chosen, chosen-best}
+use Rattle.codes.specs.BranchState.{State, with-chord}
 use Rattle.tables.specs.declared.«record».Order.{Order}
 use Rattle.tables.specs.declared.«record».Order.the-variants.{After}
 use Rattle.branches.specs.declared.extension.Extension.{Extension}
-use Rattle.readings.specs.Readings.{held-records}
+use Rattle.branches.specs.declared.extension.Extension.the-variants.{Chord, Edge, None}
 use Rattle.branches.specs.Extensions.{Extension-found}
-use Rattle.branches.specs.Ways.{Way, Passed, Can-find, Can-follow, followed}
-use Rattle.least_seen.specs.BetterLaws.{found-finds, way-follows}
+use Rattle.branches.specs.Branches.{chorded, Placed}
+use Rattle.branches.specs.InPlaceLaws.{chorded-is, places-at, bounds-places}
+use Rattle.branches.specs.NextRecords.{found-record}
+use Rattle.branches.specs.Ways.{Ties-way, Way, Passed, followed}
+use Rattle.least_seen.specs.BetterLaws.{tie-room}
 use Rattle.least_code.specs.Searches.{
-  rows-to,
   Search-from,
   Search-done,
-  found-record,
   Against,
   chosen-rows,
-  Led-below,
+  Next-chosen,
+  Edges-from,
+  Ways-done,
 }
-use Rattle.least_code.specs.SearchBest.{best-begins, against-chosen}
-use Rattle.least_code.specs.SearchLaws.{best-most, best-rows, search-sees, search-ended, search-cut}
+use Rattle.least_code.specs.SearchBest.{first-records, best-begins, against-chosen}
+use Rattle.least_code.specs.SearchLaws.{
+  search-bounds,
+  search-sees,
+  never-none,
+  best-most,
+  best-rows,
+  search-ended,
+  search-cut,
+}
 use Rattle.least_code.specs.SearchWays.{
   Ways-searched,
   ways-begin,
@@ -41,121 +51,182 @@ use Rattle.least_code.specs.SearchWays.{
 }
 
 -- ON THE WAY IN: how many records the best has, and whether a cable is left to list
-module _ {bs table : List ℕ} {m : ℕ} {b : State} (t : ℕ) (best : Code) (s : Search-from bs table m (rows-to t best) b (held-records best)) where
-  size : length (rows-to t best) ≡ t
-  size = recs-in-length t (best .records)
-
-  count : length (held-records best) ≡ best .count
-  count = recs-in-length (best .count) (best .records)
+module _ {bs table : List ℕ} {m : ℕ} {b : State} (t : ℕ) (best : List ℕ) (held : ℕ)
+    (s : Search-from bs table m (recs-in t best) b (recs-in held best)) where
+  size : length (recs-in t best) ≡ t
+  size = recs-in-length t best
 
   cables-most : m ≤ 20
   cables-most = omega (arith, s .given .cables, s .given .pattern .cables-high)
 
-  pub best-counts : (t ≤ best .count) × (best .count ≤ 20)
-  best-counts = (omega (arith, size, count, best-rows s), omega (arith, count, cables-most, best-most s))
+  pub best-counts : (t ≤ held) × (held ≤ 20)
+  best-counts =
+      let count = recs-in-length held best in
+      (omega (arith, size, count, best-rows s), omega (arith, count, cables-most, best-most s))
 
-  pub search-end : t ≡ m → Search-done bs (rows-to t best) b (held-records best) (held-records best)
+  pub search-end : t ≡ m → Search-done bs (recs-in t best) b (recs-in held best) (recs-in held best)
   search-end e = search-ended s (size ∙ e)
 
   pub cable-left : (t ≡ m → ⊥) → (t < m) × (m ≤ 20)
   cable-left more = (omega (arith, size, s .few), cables-most)
 
--- THE NEXT RECORD, found and compared with the best
-pub record Next-met (bs table : List ℕ) (m t : ℕ) (b : State) (best : Code) (e : Extension) (next : Rec) (o : Order) : Type 0 where
-  pub from : Search-from bs table m (rows-to t best) b (held-records best)
-  pub more : t ≡ m → ⊥
-  pub found : Extension-found table b e
-  pub is : next ≡ found-record (drawing-in bs) b e
-  pub against : Against (rows-to t best) (held-records best) next o
+-- THE WAYS of the next record, one after another
+module _ {bs table : List ℕ} {m t : ℕ} {b : State} {best : List Rec} {e : Extension} {first : List ℕ} {held : ℕ}
+    (z : Next-chosen bs table m t b best e first held) where
+  less : length (recs-in t first) < m
+  less = omega (arith, recs-in-length t first, z .more)
 
--- it is chosen, and the best is then `first`
-pub record Next-chosen (bs table : List ℕ) (m t : ℕ) (b : State) (best : Code) (e : Extension) (first : Code) : Type 0 where
-  pub from : Search-from bs table m (rows-to t best) b (held-records best)
-  pub more : t ≡ m → ⊥
-  pub found : Extension-found table b e
-  pub chosen :
-      Chosen kinds-before kinds-order (drawing-in bs) (rows-to t best) (found-record (drawing-in bs) b e) (held-records best) (held-records first)
-
-module _ {bs table : List ℕ} {m t : ℕ} {b : State} {best : Code} {e : Extension} {next : Rec} {o : Order}
-    (z : Next-met bs table m t b best e next o) where
-  pub met-left : o ≡ After → Search-done bs (rows-to t best) b (held-records best) (held-records best)
-  met-left q = search-cut (z .from) e (z .found) (rw (q, z .is) at (z .against))
-
-  pub met-chosen :
-      (o ≡ After → ⊥) → (first : Code) → held-records first ≡ chosen-rows o (rows-to t best) next (held-records best)
-      → Next-chosen bs table m t b best e first
-  met-chosen n first rows =
-      record {
-        from = z .from;
-        more = z .more;
-        found = z .found;
-        chosen = rw (rows, ← z .is) (against-chosen (drawing-in bs) (rows-to t best) (held-records best) next o (z .against) n);
-      }
-
--- ITS WAYS, one after another
-module _ {bs table : List ℕ} {m t : ℕ} {b : State} {best : Code} {e : Extension} {first : Code} (z : Next-chosen bs table m t b best e first) where
-  pub chosen-left : (t < m) × (m ≤ 20)
-  chosen-left = cable-left t best (z .from) (z .more)
-
-  less : length (rows-to t best) < m
-  less = omega (arith, size t best (z .from), chosen-left)
-
-  pub chosen-finds : Can-find b e
-  chosen-finds = found-finds (search-sees (z .from)) e (z .found)
-
-  pub chosen-follows : (w : ℕ) → Way table b e w → Can-follow b e w
-  chosen-follows = way-follows (search-sees (z .from)) e (z .found)
-
-  -- the ways below n are searched
-  abbrev pub Ways-to : (now : Code) (n : ℕ) → Type 0
-  Ways-to now n = Ties kinds-before kinds-order (drawing-in bs) (rows-to (t + 1) first) (held-records first) (held-records now)
-      (Led-below table b e n)
+  pub chosen-most : m ≤ 20
+  chosen-most = omega (arith, z .from .given .cables, z .from .given .pattern .cables-high)
 
   longer : List Rec
-  longer = snoc (rows-to t best) (found-record (drawing-in bs) b e)
+  longer = snoc (recs-in t first) (found-record (drawing-in bs) b e)
 
   longer-size : length longer ≡ t + 1
   unfolding longer
-  longer-size = rw snoc-length (omega (arith, size t best (z .from)))
+  longer-size = rw snoc-length (omega (arith, recs-in-length t first))
 
-  first-rows : rows-to (t + 1) first ≡ longer
+  first-rows : recs-in (t + 1) first ≡ longer
   unfolding longer
   first-rows =
-      best-begins (drawing-in bs) longer first (t + 1)
-      (chosen-best kinds-before kinds-order (drawing-in bs) (rows-to t best) _ (held-records best) (held-records first) (z .from .so-far)
+      best-begins (drawing-in bs) longer first held (t + 1)
+      (chosen-best kinds-before kinds-order (drawing-in bs) (recs-in t first) _ best (recs-in held first) (z .from .so-far)
       (z .chosen)) longer-size
 
-  pub ways-first : Ways-to first 0
+  pub ways-first : Ways-done bs table t b e first held first held 0
   unfolding longer
-  ways-first = rw first-rows (ways-begin (z .from) e (z .found) less (held-records first) (z .chosen))
+  ways-first = rw first-rows (ways-begin (z .from) e (z .found) less (recs-in held first) (z .chosen))
 
-  module _ (now : Code) (n : ℕ) (so : Ways-to now n) where
-    so-rows : Ways-searched (z .from) e (z .found) less (held-records first) (held-records now) n
+  module _ (now : List ℕ) (kept n : ℕ) (so : Ways-done bs table t b e first held now kept n) where
+    so-rows : Ways-searched (z .from) e (z .found) less (recs-in held first) (recs-in kept now) n
     unfolding longer
     so-rows = rw first-rows at so
 
-    pub ways-skip : (k : ℕ) → ((w : ℕ) → n ≤ w → w < k → Way table b e w → Passed table b e w) → Ways-to now k
+    pub ways-skip :
+        (k : ℕ) → ((w : ℕ) → n ≤ w → w < k → Way table b e w → Passed table b e w) → Ways-done bs table t b e first held now kept k
     unfolding longer
     ways-skip k each =
-        rw first-rows (ways-passed (z .from) e (z .found) less (held-records first) (held-records now) n so-rows k each)
+        rw first-rows (ways-passed (z .from) e (z .found) less (recs-in held first) (recs-in kept now) n so-rows k each)
 
-    now-rows : rows-to (t + 1) now ≡ longer
+    now-rows : recs-in (t + 1) now ≡ longer
     unfolding longer
-    now-rows = best-begins (drawing-in bs) longer now (t + 1) (so-rows .best) longer-size
+    now-rows = best-begins (drawing-in bs) longer now kept (t + 1) (so-rows .best) longer-size
 
     module _ (way : Way table b e n) (b′ : State) (is : b′ ≡ followed b e n) where
-      pub way-call : Search-from bs table m (rows-to (t + 1) now) b′ (held-records now)
+      pub way-call : Search-from bs table m (recs-in (t + 1) now) b′ (recs-in kept now)
       unfolding longer
-      way-call = rw (is, now-rows) (way-search (z .from) e (z .found) less (held-records first) (held-records now) n so-rows way)
+      way-call = rw (is, now-rows) (way-search (z .from) e (z .found) less (recs-in held first) (recs-in kept now) n so-rows way)
 
-      pub way-return : (after : Code) → Search-done bs (rows-to (t + 1) now) b′ (held-records now) (held-records after) → Ways-to after (n + 1)
+      pub way-return :
+          (after : List ℕ) (left : ℕ) → Search-done bs (recs-in (t + 1) now) b′ (recs-in kept now) (recs-in left after)
+          → Ways-done bs table t b e first held after left (n + 1)
       unfolding longer
-      way-return after done =
+      way-return after left done =
           rw first-rows
-          (way-searched (z .from) e (z .found) less (held-records first) (held-records now) n so-rows way (held-records after)
+          (way-searched (z .from) e (z .found) less (recs-in held first) (recs-in kept now) n so-rows way (recs-in left after)
           (rw (is, now-rows) at done))
 
-  pub ways-last : (after : Code) → Ways-to after 10 → Search-done bs (rows-to t best) b (held-records best) (held-records after)
+  pub ways-last :
+      (after : List ℕ) (left : ℕ) → Ways-done bs table t b e first held after left 10
+      → Search-done bs (recs-in t first) b best (recs-in left after)
   unfolding longer
-  ways-last after so =
-      ways-done (z .from) e (z .found) less (held-records first) (held-records after) (z .chosen) (rw first-rows at so)
+  ways-last after left so =
+      ways-done (z .from) e (z .found) less (recs-in held first) (recs-in left after) (z .chosen) (rw first-rows at so)
+
+-- a backward one has one way
+module _ {bs table : List ℕ} {m t : ℕ} {b : State} {best : List Rec} {q l : ℕ} {first : List ℕ} {held : ℕ}
+    (z : Next-chosen bs table m t b best (Chord q l) first held) (b′ : State) (is : b′ ≡ with-chord b q) where
+  chord-call : Search-from bs table m (recs-in (t + 1) first) b′ (recs-in held first)
+  chord-call = way-call z first held 0 (ways-first z) refl b′ is
+
+  chord-done :
+      (after : List ℕ) (left : ℕ) → Search-done bs (recs-in (t + 1) first) b′ (recs-in held first) (recs-in left after)
+      → Search-done bs (recs-in t first) b best (recs-in left after)
+  chord-done after left done =
+      ways-last z after left
+      (ways-skip z after left 1 (way-return z first held 0 (ways-first z) refl b′ is after left done) 10 (λ w h g e. omega arith))
+
+-- a forward one needs room for a number
+module _ {bs table : List ℕ} {m t : ℕ} {b : State} {best : List Rec} {q l : ℕ} {first : List ℕ} {held : ℕ}
+    (z : Next-chosen bs table m t b best (Edge q l) first held) where
+  pub edge-placed : Placed (b .numbers) (b .path) q × (length (b .used) ≡ 10)
+  edge-placed = (places-at (bounds-places b (search-bounds (z .from))) q (z .found .place), z .from .represents .used-size)
+
+  pub edge-room : (w : ℕ) → Ties-way table b q l w → (b .given < 10) × (q < 9) × (w < 10)
+  edge-room w k = tie-room (search-sees (z .from)) q l w (z .found) k
+
+-- IT IS FOUND and compared with the best
+pub record Next-met (bs table : List ℕ) (m t : ℕ) (b : State) (best : List ℕ) (held : ℕ) (e : Extension) (next : Rec) (o : Order) : Type 0 where
+  pub from : Search-from bs table m (recs-in t best) b (recs-in held best)
+  pub more : t ≡ m → ⊥
+  pub found : Extension-found table b e
+  pub is : next ≡ found-record (drawing-in bs) b e
+  pub against : Against (recs-in t best) (recs-in held best) next o
+
+module _ {bs table : List ℕ} {m t : ℕ} {b : State} {best : List ℕ} {held : ℕ} {e : Extension} {next : Rec} {o : Order}
+    (z : Next-met bs table m t b best held e next o) where
+  pub met-left : o ≡ After → Search-done bs (recs-in t best) b (recs-in held best) (recs-in held best)
+  met-left q = search-cut (z .from) e (z .found) (rw (q, z .is) at (z .against))
+
+  -- it is chosen, and the best is then the first `kept` records of `first`
+  module _
+      (n : o ≡ After → ⊥)
+      (first : List ℕ)
+      (kept : ℕ)
+      (rows : recs-in kept first ≡ chosen-rows o (recs-in t best) next (recs-in held best)) where
+    chosen :
+        Chosen kinds-before kinds-order (drawing-in bs) (recs-in t best) (found-record (drawing-in bs) b e) (recs-in held best)
+        (recs-in kept first)
+    chosen = rw (rows, ← z .is) (against-chosen (drawing-in bs) (recs-in t best) (recs-in held best) next o (z .against) n)
+
+    rows-same : recs-in t first ≡ recs-in t best
+    rows-same =
+        let longer =
+        chosen-best kinds-before kinds-order (drawing-in bs) (recs-in t best) (found-record (drawing-in bs) b e) (recs-in held best)
+        (recs-in kept first) (z .from .so-far) chosen in
+        first-records first kept t (recs-in t best) (found-record (drawing-in bs) b e ∷ longer .rest)
+        (longer .is ∙ append-assoc (recs-in t best) (found-record (drawing-in bs) b e ∷ []) (longer .rest)) (recs-in-length t best)
+
+    met-chosen : Next-chosen bs table m t b (recs-in held best) e first kept
+    met-chosen =
+        record {
+          from = rw rows-same (z .from);
+          more = cable-left t best held (z .from) (z .more) .0;
+          found = z .found;
+          chosen = rw rows-same chosen;
+        }
+
+    -- backward: the branch that it leads to, and what is done below it
+    module _ (q l : ℕ) (back : e ≡ Chord q l) where
+      back-chosen : Next-chosen bs table m t b (recs-in held best) (Chord q l) first kept
+      back-chosen = rw back at met-chosen
+
+      back-low : chorded b (next .j) ≡ with-chord b q
+      back-low =
+          sym (chorded-is b q (next .j) (sym (ap (λ (r : Rec). r .j) (z .is ∙ ap (found-record (drawing-in bs) b) back))))
+
+      pub back-call : Search-from bs table m (recs-in (t + 1) first) (chorded b (next .j)) (recs-in kept first)
+      back-call = chord-call back-chosen _ back-low
+
+      pub back-done :
+          (after : List ℕ) (left : ℕ) → Search-done bs (recs-in (t + 1) first) (chorded b (next .j)) (recs-in kept first) (recs-in left after)
+          → Search-done bs (recs-in t best) b (recs-in held best) (recs-in left after)
+      back-done after left done = rw rows-same at (chord-done back-chosen _ back-low after left done)
+
+    -- forward: its ways, and what is done when all are searched
+    module _ (q l : ℕ) (front : e ≡ Edge q l) where
+      front-chosen : Next-chosen bs table m t b (recs-in held best) (Edge q l) first kept
+      front-chosen = rw front at met-chosen
+
+      pub front-call : Edges-from bs table m t b q l first kept
+      front-call = (recs-in held best, front-chosen)
+
+      pub front-done :
+          (after : List ℕ) (left : ℕ) → Ways-done bs table t b (Edge q l) first kept after left 10
+          → Search-done bs (recs-in t best) b (recs-in held best) (recs-in left after)
+      front-done after left so = rw rows-same at (ways-last front-chosen after left so)
+
+    -- a cable is left, so that something goes on
+    pub never-nothing : e ≡ None → ⊥
+    never-nothing nothing =
+        never-none (z .from) (omega (arith, recs-in-length t best, cable-left t best held (z .from) (z .more))) (rw nothing at (z .found))

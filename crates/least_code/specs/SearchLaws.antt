@@ -26,8 +26,10 @@ use Rattle.tables.specs.declared.«record».Order.the-variants.{After}
 use Rattle.branches.specs.declared.extension.Extension.{Extension}
 use Rattle.branches.specs.declared.extension.Extension.the-variants.{Chord, Edge, None}
 use Rattle.branches.specs.Extensions.{Extension-found}
-use Rattle.least_seen.specs.BetterLaws.{Sees, found-compares}
-use Rattle.least_code.specs.Searches.{Search-from, Search-done, found-record, Makes-record, Against, comes-after}
+use Rattle.branches.specs.NextRecords.{found-record, Makes-record}
+use Rattle.branches.specs.InPlaceLaws.{bounds-places}
+use Rattle.least_seen.specs.BetterLaws.{Sees, found-records}
+use Rattle.least_code.specs.Searches.{Search-from, Search-done, Against, comes-after}
 
 -- rows of a node are some
 node-some : (d : Drawing) (γ : List Rec) (f : List ℕ) → Node d γ f → 0 < length γ
@@ -97,14 +99,17 @@ module _ {bs t : List ℕ} {m : ℕ} {γ : List Rec} {b : State} {best : List Re
   pub search-sees : Sees (drawing-in bs) t γ b
   search-sees = record { ten = ten; ends = ends; labels = table; branch = r }
 
-  pub makes-record : (e : Extension) → Extension-found t b e → Makes-record bs b e
+  pub makes-record : (e : Extension) → Extension-found t b e → Makes-record bs (b .numbers) (b .path) (b .count) (b .given) e
   makes-record e c =
       record {
         accepted = s .given .accepted;
+        some = omega (arith, search-bounds .two);
+        given-low = search-bounds .given-low;
+        places = bounds-places b search-bounds;
         lands = λ q h.
             rw (device-is d γ b ten r q h)
             (r .node .embedding .lands (getD (b .path) q 0) (rw (numbering-size d γ b ten r) (search-bounds .on-path q h)));
-        place = found-compares search-sees e c;
+        place = found-records search-sees e c;
       }
 
   -- THE BEST SO FAR has at least the rows, and at most all cables

@@ -17,15 +17,12 @@ use Rattle.codes.specs.CodeBytes.{recs-in-length}
 use Rattle.codes.specs.FirstRecord.{first-record}
 use Rattle.codes.specs.Greedy.{Fits}
 use Rattle.codes.specs.Searched.{Full, Chosen, chosen-best}
-use Rattle.codes.specs.BranchState.{State, first-state}
-use Rattle.records.specs.declared.code.Code.{Code}
+use Rattle.codes.specs.BranchState.{first-state}
 use Rattle.records.specs.DrawingCables.{cable-at, cables-before}
 use Rattle.records.specs.CableLaws.{before-length, before-at, before-next}
 use Rattle.tables.specs.declared.«record».Order.{Order}
 use Rattle.tables.specs.declared.«record».Order.the-variants.{After}
-use Rattle.readings.specs.Readings.{held-records}
 use Rattle.least_code.specs.Searches.{
-  rows-to,
   Given,
   Search-from,
   Search-done,
@@ -33,38 +30,35 @@ use Rattle.least_code.specs.Searches.{
   chosen-rows,
   Start-from,
   Start-done,
+  Starts,
+  no-start,
+  Seen-before,
 }
 use Rattle.least_code.specs.SearchBest.{best-begins, against-chosen}
 use Rattle.least_code.specs.SearchStarts.{
   start-passed,
   start-search,
   start-searched,
-  Starts,
-  no-start,
   starts-best,
   starts-more,
   starts-least,
 }
 
--- a code of no records
-pub no-record-yet : (c : Code) → c .count ≡ 0 → held-records c ≡ []
+-- no records
+pub no-rows : (bs : List ℕ) → recs-in 0 bs ≡ []
 unfolding recs-in rows
-no-record-yet c e = rw e
-
-pub no-rows : (c : Code) → rows-to 0 c ≡ []
-unfolding recs-in rows
-no-rows c = refl
+no-rows bs = refl
 
 -- ONE START
-module _ {bs table : List ℕ} {m u w k : ℕ} (best : Code) (s : Start-from bs table m u w k (held-records best)) where
-  pub start-count : best .count ≤ 20
+module _ {bs table : List ℕ} {m u w k : ℕ} (best : List ℕ) (held : ℕ) (s : Start-from bs table m u w k (recs-in held best)) where
+  pub start-count : held ≤ 20
   start-count = go (s .so-far .whole)
     where
-      count : length (held-records best) ≡ best .count
-      count = recs-in-length (best .count) (best .records)
+      count : length (recs-in held best) ≡ held
+      count = recs-in-length held best
 
-      go : (held-records best ≡ []) ⊎ (Full kinds-before kinds-order (drawing-in bs) (held-records best) × Fits (drawing-in bs)
-          (held-records best)) → best .count ≤ 20
+      go : (recs-in held best ≡ []) ⊎ (Full kinds-before kinds-order (drawing-in bs) (recs-in held best) × Fits (drawing-in bs)
+          (recs-in held best)) → held ≤ 20
       go (inl e) = omega (arith, count, ap length e)
       go (inr z) = omega (arith, count, z .0, s .given .pattern .cables-high)
 
@@ -72,33 +66,32 @@ module _ {bs table : List ℕ} {m u w k : ℕ} (best : Code) (s : Start-from bs 
       (next : Rec)
       (is : next ≡ first-record (drawing-in bs) u w k)
       (o : Order)
-      (stands : Against (rows-to 0 best) (held-records best) next o) where
-    pub start-left : o ≡ After → Start-done (drawing-in bs) u w k (held-records best) (held-records best)
+      (stands : Against (recs-in 0 best) (recs-in held best) next o) where
+    pub start-left : o ≡ After → Start-done (drawing-in bs) u w k (recs-in held best) (recs-in held best)
     start-left q = start-passed s (rw (no-rows best, is, q) at stands)
 
     module _
         (on : o ≡ After → ⊥)
-        (first : Code)
-        (rows : held-records first ≡ chosen-rows o (rows-to 0 best) next (held-records best))
-        (b : State)
-        (begins : b ≡ first-state u w) where
-      chosen : Chosen kinds-before kinds-order (drawing-in bs) [] (first-record (drawing-in bs) u w k) (held-records best) (held-records first)
-      chosen = rw (rows, ← is, no-rows best) (against-chosen (drawing-in bs) [] (held-records best) next o (rw (no-rows best) at stands) on)
+        (first : List ℕ)
+        (kept : ℕ)
+        (rows : recs-in kept first ≡ chosen-rows o (recs-in 0 best) next (recs-in held best)) where
+      chosen : Chosen kinds-before kinds-order (drawing-in bs) [] (first-record (drawing-in bs) u w k) (recs-in held best) (recs-in kept first)
+      chosen = rw (rows, ← is, no-rows best) (against-chosen (drawing-in bs) [] (recs-in held best) next o (rw (no-rows best) at stands) on)
 
-      first-row : rows-to 1 first ≡ first-record (drawing-in bs) u w k ∷ []
+      first-row : recs-in 1 first ≡ first-record (drawing-in bs) u w k ∷ []
       first-row =
-          best-begins (drawing-in bs) _ first 1
-          (chosen-best kinds-before kinds-order (drawing-in bs) [] (first-record (drawing-in bs) u w k) (held-records best)
-          (held-records first) (s .so-far) chosen) refl
+          best-begins (drawing-in bs) _ first kept 1
+          (chosen-best kinds-before kinds-order (drawing-in bs) [] (first-record (drawing-in bs) u w k) (recs-in held best)
+          (recs-in kept first) (s .so-far) chosen) refl
 
-      pub start-call : Search-from bs table m (rows-to 1 first) b (held-records first)
-      start-call = rw (first-row, begins) (start-search s (held-records first) chosen)
+      pub start-call : Search-from bs table m (recs-in 1 first) (first-state u w) (recs-in kept first)
+      start-call = rw first-row (start-search s (recs-in kept first) chosen)
 
       pub start-return :
-          (after : Code) → Search-done bs (rows-to 1 first) b (held-records first) (held-records after)
-          → Start-done (drawing-in bs) u w k (held-records best) (held-records after)
+          (after : List Rec) → Search-done bs (recs-in 1 first) (first-state u w) (recs-in kept first) after
+          → Start-done (drawing-in bs) u w k (recs-in held best) after
       start-return after z =
-          start-searched s (held-records first) chosen (held-records after) (rw (first-row, begins) at z)
+          start-searched s (recs-in kept first) chosen after (rw first-row at z)
 
 -- a cable of a list, by its place
 has-at : (cs : List Cable) (c : ℕ) (z : Cable) → c < length cs → Has (getD cs c z .a) (getD cs c z .b) (getD cs c z .kind) cs
@@ -106,11 +99,7 @@ has-at [] c z h = absurd (not-suc-le-zero h)
 has-at (x ∷ cs) zero z h = has-first x cs
 has-at (x ∷ cs) (suc c) z h = Has.there (has-at cs c z (le-of-suc-le-suc h))
 
--- THE WALK OVER THE CABLES: those before c are seen, both ways round
-abbrev pub Seen-before : (bs : List ℕ) (c u w k : ℕ) → Type 0
-Seen-before bs c u w k = Has u w k (cables-before c bs)
-
--- and the next one way round
+-- THE WALK OVER THE CABLES: those before c are seen, both ways round, and the next one way round
 abbrev pub Seen-half : (bs : List ℕ) (c a b l u w k : ℕ) → Type 0
 Seen-half bs c a b l u w k = Seen-before bs c u w k ⊎ ((u ≡ a) × (w ≡ b) × (k ≡ l))
 

@@ -1,13 +1,13 @@
 -- The starts of a search: a cable one way round, then every cable both ways round. Rests on Started, and on the laws of a
 -- search below a branch. Assumes nothing.
-use mathlib.Core.Path.{_≡_, refl, sym, ap, _∙_, subst}
+use mathlib.Core.Path.{_≡_, refl, sym, ap, subst}
 use mathlib.Core.Bool.{true}
 use mathlib.Core.List.{List, [], _∷_}
 use mathlib.Core.Logic.{_⊎_, inl, inr}
-use Prim.Native.Nat.{ℕ, _-_, _/_, _%_, _≤_, _<_}
+use Prim.Native.Nat.{ℕ, _<_}
 use native.Mathlib.Omega.{arith}
 use lib.ListN.{length}
-use Rattle.graphs.specs.Drawing.{Drawing, devices, kind, drawing-in}
+use Rattle.graphs.specs.Drawing.{Drawing, devices, drawing-in}
 use Rattle.graphs.specs.Cables.{Has, has-flip}
 use Rattle.graphs.specs.Graph.{Pattern}
 use Rattle.codes.specs.Code.{Rec, kinds-before, rec-before, Least}
@@ -15,11 +15,12 @@ use Rattle.codes.specs.CodeOrder.{rec-eq, kinds-order}
 use Rattle.codes.specs.FirstRecord.{first-record, some-cable}
 use Rattle.codes.specs.Branch.{tight-first}
 use Rattle.codes.specs.Searched.{Best, Chosen, begun, kept, lowered, chosen-best}
-use Rattle.codes.specs.Started.{Started, Meets, none-yet, lowers, ties, started-skip, started-more, started-least}
+use Rattle.codes.specs.Started.{Meets, none-yet, lowers, ties, started-skip, started-more, started-least}
 use Rattle.codes.specs.BranchState.{label-at, first-state}
 use Rattle.codes.specs.LabelLaws.{Labelled, cable-labelled}
 use Rattle.codes.specs.BranchSteps.{represents-first}
 use Rattle.tables.specs.declared.«record».Order.the-variants.{After}
+use Rattle.branches.specs.NextRecords.{first-along, Makes-first}
 use Rattle.least_code.specs.Searches.{
   Search-from,
   Search-done,
@@ -29,6 +30,9 @@ use Rattle.least_code.specs.Searches.{
   Start-done,
   passed,
   searched,
+  Starts,
+  no-start,
+  some-start,
 }
 
 -- ONE START
@@ -43,7 +47,7 @@ module _ {bs table : List ℕ} {m u w k : ℕ} {best : List Rec} (s : Start-from
   first = first-record (drawing-in bs) u w k
 
   -- the ends of the cable are devices
-  pub start-ends : (u < devices (drawing-in bs)) × (w < devices (drawing-in bs))
+  start-ends : (u < devices (drawing-in bs)) × (w < devices (drawing-in bs))
   start-ends = (p .simple .ends u w k (s .has), p .simple .ends w u k (has-flip (s .has)))
 
   pub start-low : (u < 10) × (w < 10)
@@ -52,19 +56,22 @@ module _ {bs table : List ℕ} {m u w k : ℕ} {best : List Rec} (s : Start-from
   its-label : Labelled (drawing-in bs) u w k (label-at table u w)
   its-label = cable-labelled d (p .simple .ends) table (s .given .labels) u w k (s .has)
 
-  -- its label l, and the first record taken from it
-  module _ (l : ℕ) (label-is : l ≡ label-at table u w) where
-    pub start-label : (0 < l) × (l ≤ 65536)
-    start-label =
-        let z = its-label in
-        (omega (arith, z .is), omega (arith, z .is, z .byte, s .given .labels .cable-byte u w k (s .has)))
+  -- the first record is taken from its label
+  pub makes-first : Makes-first bs table u w
+  makes-first =
+      let z = its-label in
+      record {
+        accepted = s .given .accepted;
+        device = start-ends .0;
+        u-low = start-low .0;
+        w-low = start-low .1;
+        some = omega (arith, z .is);
+        most = omega (arith, z .is, z .byte, s .given .labels .cable-byte u w k (s .has));
+      }
 
-    pub start-record :
-        (ki c kj : ℕ) → ki ≡ kind (drawing-in bs) u → c ≡ (l - 1) / 256 → kj ≡ (l - 1) % 256
-        → record { i = 0; j = 1; ki = ki; c = c; kj = kj } ≡ first-record (drawing-in bs) u w k
-    unfolding first-record
-    start-record ki c kj p q r =
-        rec-eq _ _ refl refl p (q ∙ rw label-is (sym (its-label .cable-is))) (r ∙ rw label-is (sym (its-label .kind-is)))
+  pub first-is : first-along (drawing-in bs) table u w ≡ first-record (drawing-in bs) u w k
+  unfolding first-record
+  first-is = rec-eq _ _ refl refl refl (sym (its-label .cable-is)) (sym (its-label .kind-is))
 
   -- the best is ahead
   pub start-passed : Against [] best first After → Start-done (drawing-in bs) u w k best best
@@ -91,11 +98,7 @@ module _ {bs table : List ℕ} {m u w k : ℕ} {best : List Rec} (s : Start-from
         → Start-done (drawing-in bs) u w k best after
     start-searched after z = searched after-first chosen z
 
--- SEVERAL STARTS: none yet, or what the starts so far establish of the best
-pub data Starts (d : Drawing) (best : List Rec) (Seen : (u w k : ℕ) → Type 0) : Type 0 where
-  no-start : best ≡ [] → ((u w k : ℕ) → Seen u w k → ⊥) → Starts d best Seen
-  some-start : Started kinds-before kinds-order d best Seen → Starts d best Seen
-
+-- SEVERAL STARTS
 pub starts-best : (d : Drawing) (best : List Rec) (Seen : (u w k : ℕ) → Type 0) → Starts d best Seen → Best kinds-before kinds-order d [] best
 starts-best d best Seen (no-start e n) = record { rest = best; is = refl; whole = inl e }
 starts-best d best Seen (some-start t) = record { rest = best; is = refl; whole = inr (t .full, t .fits) }

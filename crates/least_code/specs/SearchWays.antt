@@ -25,9 +25,10 @@ use Rattle.codes.specs.TwinBranches.{twin-free, twin-label, twin-edge-run}
 use Rattle.branches.specs.declared.extension.Extension.{Extension}
 use Rattle.branches.specs.declared.extension.Extension.the-variants.{Chord, Edge, None}
 use Rattle.branches.specs.Extensions.{Extension-found}
+use Rattle.branches.specs.NextRecords.{found-record}
 use Rattle.branches.specs.Ways as ways
 use Rattle.branches.specs.Ways.{Way, Passed, followed}
-use Rattle.least_code.specs.Searches.{Search-from, Search-done, found-record, Led-below}
+use Rattle.least_code.specs.Searches.{Search-from, Search-done, Led-below}
 use Rattle.least_code.specs.SearchLaws.{chord-record-is, edge-record-is, found-least, found-local}
 
 -- fewer ties are searched too

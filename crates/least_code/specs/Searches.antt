@@ -3,29 +3,27 @@
 use mathlib.Core.Path.{_≡_}
 use mathlib.Core.Bool.{true}
 use mathlib.Core.List.{List, [], _∷_, _++_}
-use Prim.Native.Nat.{ℕ, _-_, _≤_, _<_}
+use Prim.Native.Nat.{ℕ, _+_, _≤_, _<_}
 use lib.ListN.{length}
 use Rattle.laws.specs.Lists.{snoc}
-use Rattle.graphs.specs.Drawing.{Drawing, devices, kind, drawing-in, drawing-refusal}
+use Rattle.graphs.specs.Drawing.{Drawing, drawing-in, drawing-refusal}
 use Rattle.graphs.specs.Cables.{Has}
 use Rattle.graphs.specs.Graph.{Pattern}
 use Rattle.codes.specs.Code.{Rec, fresh, recs-in, read-rows, kinds-before, rec-before}
 use Rattle.codes.specs.CodeOrder.{kinds-order}
 use Rattle.codes.specs.FirstRecord.{first-record}
 use Rattle.codes.specs.Tight.{Tight}
-use Rattle.codes.specs.Searched.{Best, Searched, Chosen}
-use Rattle.codes.specs.BranchState.{Labels, State, numbering, device-at, Represents}
-use Rattle.records.specs.declared.code.Code.{Code}
+use Rattle.codes.specs.Searched.{Best, Searched, Ties, Chosen}
+use Rattle.codes.specs.Started.{Started}
+use Rattle.codes.specs.BranchState.{Labels, State, numbering, Represents}
+use Rattle.records.specs.DrawingCables.{cables-before}
 use Rattle.tables.specs.declared.«record».Order.{Order}
 use Rattle.tables.specs.declared.«record».Order.the-variants.{Before, Equal, After}
 use Rattle.branches.specs.declared.extension.Extension.{Extension}
-use Rattle.branches.specs.declared.extension.Extension.the-variants.{Chord, Edge, None}
-use Rattle.branches.specs.Ways.{chord-with, edge-with, Way, followed}
-use Rattle.least_seen.specs.Betters.{Can-compare}
-
--- the first t records of a code under work
-abbrev pub rows-to : (t : ℕ) → Code → List Rec
-rows-to t c = recs-in t (c .records)
+use Rattle.branches.specs.declared.extension.Extension.the-variants.{Edge}
+use Rattle.branches.specs.Extensions.{Extension-found}
+use Rattle.branches.specs.NextRecords.{found-record}
+use Rattle.branches.specs.Ways.{Way, followed}
 
 -- AN ACCEPTED DRAWING, the table of its labels, and the number of its cables
 pub record Given (bs table : List ℕ) (m : ℕ) : Type 0 where
@@ -45,18 +43,6 @@ pub record Search-from (bs table : List ℕ) (m : ℕ) (γ : List Rec) (b : Stat
 -- what it leaves
 abbrev pub Search-done : (bs : List ℕ) (γ : List Rec) (b : State) (best after : List Rec) → Type 0
 Search-done bs γ b = Searched kinds-before kinds-order (drawing-in bs) γ (numbering b)
-
--- THE NEXT RECORD: the kind of i is that of its device
-abbrev pub found-record : Drawing → State → Extension → Rec
-found-record d b (Chord q l) = chord-with b q l (kind d (device-at b (b .count - 1)))
-found-record d b (Edge q l) = edge-with b q l (kind d (device-at b q))
-found-record d b None = record { i = 0; j = 0; ki = 0; c = 0; kj = 0 }
-
--- what is needed to make it
-pub record Makes-record (bs : List ℕ) (b : State) (e : Extension) : Type 0 where
-  pub accepted : drawing-refusal bs ≡ 0
-  pub lands : (q : ℕ) → q < b .count → device-at b q < devices (drawing-in bs)
-  pub place : Can-compare b e
 
 -- HOW THE NEXT RECORD e STANDS AGAINST THE BEST behind the rows γ: there is nothing behind them, or some record first
 pub data Against (γ best : List Rec) (e : Rec) : Order → Type 0 where
@@ -78,6 +64,23 @@ pub record Led-below (table : List ℕ) (b : State) (e : Extension) (n : ℕ) (g
   pub way : Way table b e w
   pub is : g ≡ numbering (followed b e w)
 
+-- THE NEXT RECORD IS CHOSEN: it is record t of the best, which is now the first `held` records of `first`
+pub record Next-chosen (bs table : List ℕ) (m t : ℕ) (b : State) (best : List Rec) (e : Extension) (first : List ℕ) (held : ℕ) : Type 0 where
+  pub from : Search-from bs table m (recs-in t first) b best
+  pub more : t < m
+  pub found : Extension-found table b e
+  pub chosen :
+      Chosen kinds-before kinds-order (drawing-in bs) (recs-in t first) (found-record (drawing-in bs) b e) best (recs-in held first)
+
+-- a forward one, whatever the best was before
+abbrev pub Edges-from : (bs table : List ℕ) (m t : ℕ) (b : State) (q l : ℕ) (first : List ℕ) (held : ℕ) → Type 0
+Edges-from bs table m t b q l first held = (best : List Rec) × Next-chosen bs table m t b best (Edge q l) first held
+
+-- its ways below n are searched, and the best is now the first `kept` records of `now`
+abbrev pub Ways-done : (bs table : List ℕ) (t : ℕ) (b : State) (e : Extension) (first : List ℕ) (held : ℕ) (now : List ℕ) (kept n : ℕ) → Type 0
+Ways-done bs table t b e first held now kept n =
+    Ties kinds-before kinds-order (drawing-in bs) (recs-in (t + 1) first) (recs-in held first) (recs-in kept now) (Led-below table b e n)
+
 -- A START: a cable one way round
 pub record Start-from (bs table : List ℕ) (m u w k : ℕ) (best : List Rec) : Type 0 where
   pub given : Given bs table m
@@ -92,3 +95,12 @@ pub data Start-done (d : Drawing) (u w k : ℕ) (best after : List Rec) : Type 0
   searched :
       (first : List Rec) → Chosen kinds-before kinds-order d [] (first-record d u w k) best first
       → Searched kinds-before kinds-order d (first-record d u w k ∷ []) (u ∷ w ∷ []) first after → Start-done d u w k best after
+
+-- SEVERAL STARTS: none yet, or what the starts so far establish of the best
+pub data Starts (d : Drawing) (best : List Rec) (Seen : (u w k : ℕ) → Type 0) : Type 0 where
+  no-start : best ≡ [] → ((u w k : ℕ) → Seen u w k → ⊥) → Starts d best Seen
+  some-start : Started kinds-before kinds-order d best Seen → Starts d best Seen
+
+-- the cables before c are seen, both ways round
+abbrev pub Seen-before : (bs : List ℕ) (c u w k : ℕ) → Type 0
+Seen-before bs c u w k = Has u w k (cables-before c bs)

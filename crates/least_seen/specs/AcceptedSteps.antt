@@ -4,12 +4,11 @@ use mathlib.Core.Path.{_≡_, refl, sym, ap, _∙_, subst}
 use mathlib.Core.Bool.{Bool, true, false, true≢false}
 use mathlib.Core.List.{List, _∷_, _++_}
 use mathlib.Core.Logic.{inl, inr}
-use Prim.Native.Nat.{ℕ, suc, _+_, _*_, _-_, _/_, _≤_, _<_}
+use Prim.Native.Nat.{ℕ, _+_, _*_, _/_, _≤_, _<_}
 use native.Mathlib.Numerals.{add-one}
 use native.Mathlib.Omega.{arith}
 use native.Mathlib.Decide.{decLt}
-use lib.ListN.{length, getD, set, take, drop}
-use lib.Seq.{set-set, set-getD}
+use lib.ListN.{length, getD, take, drop}
 use Rattle.laws.specs.Lists.{snoc}
 use Rattle.laws.specs.Rows.{row}
 use Rattle.graphs.specs.Drawing.{Drawing}
@@ -26,7 +25,6 @@ use Rattle.codes.specs.BranchState.{
   edge-label,
   Free,
   No-chord,
-  with-chord,
   with-edge,
   Represents,
 }
@@ -38,13 +36,12 @@ use Rattle.codes.specs.TwinBranches.{twin-label, twin-edge-better}
 use Rattle.tables.specs.declared.«record».Order.the-variants.{Before, Equal, After}
 use Rattle.tables.specs.RecordLaws.{record-read}
 use Rattle.tables.specs.CodeRows.{code-simple, record-accepted, records-through, records-on}
+use Rattle.branches.specs.Branches.{chorded, edged, device-placed, Places}
+use Rattle.branches.specs.InPlaceLaws.{chorded-is, edged-is, bounds-places}
 use Rattle.least_seen.specs.Betters.{Better-below}
 use Rattle.least_seen.specs.BetterLaws.{Sees}
 use Rattle.least_seen.specs.TestFollowLaws.{sees, follows-bounds}
 use Rattle.least_seen.specs.Accepting.{
-  in-place,
-  device-placed,
-  Places,
   Marks-numbered,
   Chord-below,
   Lower,
@@ -75,47 +72,6 @@ use Rattle.least_seen.specs.AcceptedLaws.{
   front-none,
 }
 
--- THE BRANCHES that are followed, with the program's sums
-abbrev pub chorded : State → (j : ℕ) → State
-chorded b j = in-place (b .numbers) (b .used) (b .path) (b .count) (b .given) (j + 1)
-
-abbrev pub edged : State → (q w : ℕ) → State
-edged b q w =
-    in-place (set (b .numbers) (b .given) w) (set (b .used) w true) (set (b .path) (q + 1) (b .given)) (q + 2) (b .given + 1) 0
-
-chorded-is : (b : State) (q j : ℕ) → getD (b .path) q 0 ≡ j → with-chord b q ≡ chorded b j
-chorded-is b q j e =
-    let z : suc (getD (b .path) q 0) ≡ j + 1 = omega arith in
-    ap (λ (l : ℕ). in-place (b .numbers) (b .used) (b .path) (b .count) (b .given) l) z
-
-edged-is : (b : State) (q w : ℕ) → with-edge b q w ≡ edged b q w
-edged-is b q w =
-    let p : suc q ≡ q + 1 = omega arith in
-    let c : suc (suc q) ≡ q + 2 = omega arith in
-    let g : suc (b .given) ≡ b .given + 1 = omega arith in
-    λ x. record {
-      numbers = set (b .numbers) (b .given) w;
-      used = set (b .used) w true;
-      path = set (b .path) (p x) (b .given);
-      count = c x;
-      given = g x;
-      low = 0;
-    }
-
--- from arrays that are the same the same is followed
-pub edged-same :
-    {numbers₀ numbers path₀ path : List ℕ} {used₀ used : List Bool} (count given low q w : ℕ) → numbers ≡ numbers₀ → used ≡ used₀ → path ≡ path₀
-    → edged (in-place numbers₀ used₀ path₀ count given low) q w ≡ edged (in-place numbers used path count given low) q w
-edged-same count given low q w a b c =
-    λ x. record {
-      numbers = set (sym a x) given w;
-      used = set (sym b x) w true;
-      path = set (sym c x) (q + 1) given;
-      count = q + 2;
-      given = given + 1;
-      low = 0;
-    }
-
 -- WHAT WAS GIVEN, taken back
 pub untouched : {r : Bool} {numbers path : List ℕ} {used : List Bool} → Taken-back r numbers numbers used used path path
 untouched = record { numbers-same = λ e. refl; used-same = λ e. refl; path-same = λ e. refl }
@@ -123,14 +79,6 @@ untouched = record { numbers-same = λ e. refl; used-same = λ e. refl; path-sam
 pub not-taken : {numbers₀ numbers path₀ path : List ℕ} {used₀ used : List Bool} → Taken-back true numbers₀ numbers used₀ used path₀ path
 not-taken =
     record { numbers-same = λ e. absurd (true≢false e); used-same = λ e. absurd (true≢false e); path-same = λ e. absurd (true≢false e) }
-
-pub put-back : (xs ys zs : List ℕ) (i v : ℕ) → ys ≡ set xs i v → xs ≡ zs → set ys i (getD xs i 0) ≡ zs
-put-back xs ys zs i v e same = ap (λ (l : List ℕ). set l i (getD xs i 0)) e ∙ set-set xs i v (getD xs i 0) ∙ set-getD xs i 0 ∙ same
-
-pub freed : (xs ys zs : List Bool) (w : ℕ) → ys ≡ set xs w true → xs ≡ zs → getD zs w true ≡ false → set ys w false ≡ zs
-freed xs ys zs w e same free =
-    ap (λ (l : List Bool). set l w false) e ∙ set-set xs w true false ∙ ap (λ (l : List Bool). set l w false) same
-    ∙ ap (set zs w) (sym free) ∙ set-getD zs w true
 
 -- a record's label is none of a missing cable
 pub wanted-label-some : (bs : List ℕ) (k : ℕ) {l : ℕ} → l ≡ wanted-label bs k → 0 < l
@@ -161,12 +109,7 @@ module _ {t bs : List ℕ} {m n k : ℕ} {b : State} (G : Test-goes-on t bs m n 
   goes-below = bounds .count-low
 
   pub goes-places : Places (b .numbers) (b .path) (b .count)
-  goes-places =
-      record {
-        count-low = goes-count;
-        on-path = λ q h. omega (arith, bounds .on-path q h, bounds .given-low);
-        lands = λ q h. bounds .lands (getD (b .path) q 0) (bounds .on-path q h);
-      }
+  goes-places = bounds-places b bounds
 
   v : Sees (decoded (code-records bs)) t (take k (code-records bs)) b
   v = sees (G .follows)

@@ -13,6 +13,7 @@ use Rattle.codes.specs.BranchState.{label-at, label-of, State}
 use Rattle.codes.specs.Twins.{Free-twin}
 use Rattle.tables.specs.declared.«record».Order.{Order}
 use Rattle.tables.specs.declared.«record».Order.the-variants.{Before, Equal, After}
+use Rattle.branches.specs.Branches.{device-placed}
 use Rattle.least_seen.specs.Betters.{Tabled, Follows}
 
 -- AN ACCEPTED CODE of m records, of n devices, at the front of a hundred bytes
@@ -22,21 +23,6 @@ pub record Accepted-front (bs : List ℕ) (m n : ℕ) : Type 0 where
   pub most : m ≤ 20
   pub accepted : rows-refusal fresh (recs-in m bs) ≡ 0
   pub count : n ≡ length (read-rows fresh (recs-in m bs) .kinds)
-
--- A BRANCH from its arrays and counts
-abbrev pub in-place : (numbers : List ℕ) (used : List Bool) (path : List ℕ) (count given low : ℕ) → State
-in-place numbers used path count given low =
-    record { numbers = numbers; used = used; path = path; count = count; given = given; low = low }
-
--- the device at place q of a path
-abbrev pub device-placed : (numbers path : List ℕ) → (q : ℕ) → ℕ
-device-placed numbers path q = getD numbers (getD path q 0) 0
-
--- every place has a number, and that a device
-pub record Places (numbers path : List ℕ) (count : ℕ) : Type 0 where
-  pub count-low : count ≤ 10
-  pub on-path : (q : ℕ) → q < count → getD path q 0 < 10
-  pub lands : (q : ℕ) → q < count → device-placed numbers path q < 10
 
 -- devices of the drawing, and whether each has a number
 pub record Marks-numbered (used : List Bool) (n : ℕ) : Type 0 where

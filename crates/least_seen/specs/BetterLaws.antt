@@ -55,8 +55,9 @@ use Rattle.tables.specs.declared.«record».Order.the-variants.{Equal}
 use Rattle.tables.specs.Records.{order-of}
 use Rattle.tables.specs.RecordLaws.{order-equal}
 use Rattle.branches.specs.Extensions.{Extension-found}
-use Rattle.branches.specs.Ways.{Ties-way, Way, Can-find, Can-follow, followed}
-use Rattle.least_seen.specs.Betters.{step-order, Can-compare}
+use Rattle.branches.specs.NextRecords.{Can-record}
+use Rattle.branches.specs.Ways.{Ties-way, Way, followed}
+use Rattle.least_seen.specs.Betters.{step-order}
 
 -- TWO RECORDS FROM ONE DEVICE agree in its kind, so that either's stands in; from two devices kinds do not count
 stands-in : (a e : Rec) → (a .i ≡ e .i → a .ki ≡ e .ki)
@@ -115,29 +116,22 @@ module _ {d : Drawing} {t : List ℕ} {γ : List Rec} {b : State} (v : Sees d t 
   low = device-low d γ b (v .ten) (v .branch)
 
   -- WHAT THE PROGRAM NEEDS of what is found
-  pub found-compares : (s : Extension) → Extension-found t b s → Can-compare b s
-  found-compares (Chord q l) c =
+  pub found-records : (s : Extension) → Extension-found t b s → Can-record (b .count) s
+  found-records (Chord q l) c =
       let h : q < b .count = omega (arith, c .place .inner) in
       let g : b .count - 1 < b .count = omega (arith, c .place .inner) in
       let m = label-most (device-at b (b .count - 1)) (device-at b q) (low (b .count - 1) g) (low q h) in
-      (bounds, h, c .some, omega (arith, c .label))
-  found-compares (Edge q l) c =
-      (bounds, c .place, c .some, omega (arith, label-most (device-at b q) (c .device) (low q (c .place)) (c .free .below), c .label))
-  found-compares None c = tt
-
-  pub found-finds : (s : Extension) → Extension-found t b s → Can-find b s
-  found-finds (Chord q l) c = bounds
-  found-finds (Edge q l) c = (bounds, c .place)
-  found-finds None c = bounds
+      (h, c .some, omega (arith, c .label))
+  found-records (Edge q l) c =
+      (c .place, c .some, omega (arith, label-most (device-at b q) (c .device) (low q (c .place)) (c .free .below), c .label))
+  found-records None c = tt
 
   room : (q l w : ℕ) → Edge-found t b q l → Ties-way t b q l w → b .given < 10
   room q l w c k = edge-room d (v .ten) (v .ends) t (v .labels) γ b (v .branch) q w (c .place) (k .free) (omega (arith, k .label, c .some))
 
-  pub way-follows : (s : Extension) → Extension-found t b s → (w : ℕ) → Way t b s w → Can-follow b s w
-  way-follows (Chord q l) c w k = omega (arith, c .place .inner, bounds .count-low, bounds .given-low)
-  way-follows (Edge q l) c w k =
-      (omega (arith, c .place, bounds .count-low, room q l w c k), k .free .below, room q l w c k)
-  way-follows None c w k = tt
+  -- the device of a tie can be given the next number
+  pub tie-room : (q l w : ℕ) → Edge-found t b q l → Ties-way t b q l w → (b .given < 10) × (q < 9) × (w < 10)
+  tie-room q l w c k = (room q l w c k, omega (arith, c .place, bounds .count-low, room q l w c k), k .free .below)
 
   -- THE RECORD a is the least that is seen
   module _ (a : Rec) (least : (l : Rec) → Local d x f l → rec-before l a ≡ false) (e : Rec) (ss : List Rec) where

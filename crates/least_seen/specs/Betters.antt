@@ -12,7 +12,6 @@ use Rattle.codes.specs.Code.{Rec, rec-in, kinds-before, rec-before, decoded, co
 use Rattle.codes.specs.FirstRecord.{first-record}
 use Rattle.codes.specs.Better.{Better}
 use Rattle.codes.specs.BranchState.{Labels, State, numbering, Represents}
-use Rattle.codes.specs.BranchBounds.{Bounds}
 use Rattle.branches.specs.declared.extension.Extension.{Extension}
 use Rattle.branches.specs.declared.extension.Extension.the-variants.{Chord, Edge, None}
 use Rattle.tables.specs.declared.«record».Order.{Order}
@@ -26,12 +25,6 @@ abbrev pub step-order : State → Extension → Rec → Order
 step-order b (Chord q l) e = order-of (chord-with b q l (e .ki)) e
 step-order b (Edge q l) e = order-of (edge-with b q l (e .ki)) e
 step-order b None e = After
-
--- what comparing it needs
-abbrev pub Can-compare : State → Extension → Type 0
-Can-compare b (Chord q l) = Bounds b × (q < b .count) × (0 < l) × (l ≤ 65536)
-Can-compare b (Edge q l) = Bounds b × (q < b .count) × (0 < l) × (l ≤ 65536)
-Can-compare b None = Unit {0}
 
 -- an accepted code with the table of what it describes
 pub record Tabled (t bs : List ℕ) : Type 0 where

@@ -1,5 +1,6 @@
 // What a branch sees before the code's next record: a backward record, a forward one from above, a lower label. Nothing here changes
 // the branch.
+use branches::branch::device_at;
 use records::code::Code;
 use records::drawing::Drawing;
 use tables::record::Order;
@@ -15,10 +16,10 @@ ghost use Rattle.laws.specs.Rows.{row};
 ghost use Rattle.codes.specs.Code.{rec-in};
 ghost use Rattle.codes.specs.Descending.{Path-place};
 ghost use Rattle.codes.specs.Twins.{Twins-noted};
-ghost use Rattle.least_seen.specs.Accepting.{Places, Marks-numbered, Chord-below, Free-label, Counted-label, Lower};
+ghost use Rattle.branches.specs.Branches.{Places};
+ghost use Rattle.least_seen.specs.Accepting.{Marks-numbered, Chord-below, Free-label, Counted-label, Lower};
 ghost use Rattle.least_seen.specs.Accepting.{Edge-from, Edge-above, Chord-told, Before-edge};
 ghost use Rattle.least_seen.specs.Accepting.{wanted-label};
-ghost use Rattle.least_seen.specs.Accepting.{device-placed};
 
 // The label of record t: what a table has where its cable is.
 pub fn wanted_label(code: &[u8], t: usize) -> u32
@@ -40,19 +41,6 @@ pub fn place_of(path: &[u8; Drawing::MOST_DEVICES], count: usize, number: u8) ->
         }
     }
     0
-}
-
-// The device at place q of the path.
-pub fn device_at(
-    numbers: &[u8; Drawing::MOST_DEVICES],
-    path: &[u8; Drawing::MOST_DEVICES],
-    q: usize,
-) -> usize
-    requires { ⌜ (q < 10) × (getD (now path) q 0 < 10) × (device-placed (now numbers) (now path) q < 10) ⌝ }
-    ensures { λ r. ⌜ (r ≡ device-placed (now (numbers .entry)) (now (path .entry)) q) × (r < 10) ⌝ }
-{
-    let number = path[q] as usize;
-    numbers[number] as usize
 }
 
 // Whether the path's end has a cable to a place below `top` where a backward step may go.

@@ -21,14 +21,13 @@ use Rattle.codes.specs.FirstRecord.{first-record}
 use Rattle.codes.specs.Better.{Better, start-not-greedy, branch-not-greedy, start-greedy}
 use Rattle.codes.specs.LeastCode.{least-greedy, greedy-least-itself}
 use Rattle.codes.specs.CodeBytes.{accepted-code}
-use Rattle.codes.specs.BranchState.{first-state, Represents}
+use Rattle.codes.specs.BranchState.{Labels, first-state, Represents}
 use Rattle.codes.specs.BranchSteps.{represents-first}
 use Rattle.codes.specs.Code.{code-records}
 use Rattle.tables.specs.CodeRows.{records-through, records-on, code-ten, code-simple}
 use Rattle.tables.specs.CodeCables.{code-cables, record-cable, record-i-kind, record-j-kind}
 use Rattle.least_test.specs.LabelNumbers.{Numbers-labels, lower-number, same-number}
 use Rattle.least_seen.specs.Betters.{
-  Tabled,
   Follows,
   Better-below,
   Seen-cable,
@@ -53,7 +52,7 @@ cable-place (c ∷ cs) (Has.there h) =
     let p = cable-place cs h in
     record { at = suc (p .at); below = omega (arith, p .below); joins = p .joins; kind-is = p .kind-is }
 
-has-at : (cs : List Cable) (m : ℕ) (z : Cable) → m < length cs → Has (getD cs m z .a) (getD cs m z .b) (getD cs m z .kind) cs
+pub has-at : (cs : List Cable) (m : ℕ) (z : Cable) → m < length cs → Has (getD cs m z .a) (getD cs m z .b) (getD cs m z .kind) cs
 has-at [] m z h = absurd (omega arith)
 has-at (c ∷ cs) zero z h = Has.here (along refl refl) refl
 has-at (c ∷ cs) (suc m) z h = Has.there (has-at cs m z (omega arith))
@@ -102,9 +101,9 @@ module _ (d : Drawing) (r : Rec) (ss : List Rec) (u w k : ℕ) where
     first-from (inr m) = m .1
 
 -- of the code itself
-module _ {t bs : List ℕ} (T : Tabled t bs) {e : Rec} (s : Seen-cable (decoded (code-records bs)) e) where
+module _ (bs : List ℕ) (ok : code-refusal bs ≡ 0) {e : Rec} (s : Seen-cable (decoded (code-records bs)) e) where
   some : 0 < length bs / 5
-  some = omega (arith, accepted-code bs (T .accepted) .one)
+  some = omega (arith, accepted-code bs ok .one)
 
   -- the code's first record, and the rest
   to : Start-better (decoded (code-records bs)) (rec-in (row 5 0 bs) ∷ drop 1 (code-records bs)) (e .i) (e .j) (e .c)
@@ -135,13 +134,13 @@ module _ {t bs : List ℕ} (T : Tabled t bs) {e : Rec} (s : Seen-cable (decoded 
       begun-from-test (rec-in (row 5 0 bs))
       (rows-cons fresh (rec-in (row 5 0 bs)) (drop 1 (code-records bs))
       (subst (λ (rs : List Rec). rows-refusal fresh rs ≡ 0) (records-on bs 0 some (rec-in (row 5 0 bs)) refl)
-      (good-from-test (code-records bs) (accepted-code bs (T .accepted) .good) .accepted))
+      (good-from-test (code-records bs) (accepted-code bs ok .good) .accepted))
       .step)
 
   pub seen-low : (e .i < 10) × (e .j < 10)
   seen-low =
-      let ends = code-simple bs (T .accepted) .ends in
-      let ten = code-ten bs (T .accepted) in
+      let ends = code-simple bs ok .ends in
+      let ten = code-ten bs ok in
       (omega (arith, ends (e .i) (e .j) (e .c) (s .has)), omega (arith, ends (e .j) (e .i) (e .c) (has-flip (s .has))))
 
   module _ (o : begins e ≡ rec-in (row 5 0 bs)) where
@@ -151,15 +150,15 @@ module _ {t bs : List ℕ} (T : Tabled t bs) {e : Rec} (s : Seen-cable (decoded 
     through : take 1 (code-records bs) ≡ rec-in (row 5 0 bs) ∷ []
     through = records-through bs 0 some (rec-in (row 5 0 bs)) refl
 
-    pub start-follows : Follows t bs 1 (first-state (e .i) (e .j))
-    start-follows =
+    pub start-follows : {t : List ℕ} → Labels (decoded (code-records bs)) t → Follows t bs 1 (first-state (e .i) (e .j))
+    start-follows labels =
         record {
-          tabled = T;
+          tabled = record { accepted = ok; labels = labels };
           within = some;
           branch =
               subst (λ (γ : List Rec). Represents (decoded (code-records bs)) γ (first-state (e .i) (e .j)))
               (ap (λ (z : Rec). z ∷ []) first-is ∙ sym through)
-              (represents-first _ (code-simple bs (T .accepted)) (code-ten bs (T .accepted)) (e .i) (e .j) (e .c) (s .has));
+              (represents-first _ (code-simple bs ok) (code-ten bs ok) (e .i) (e .j) (e .c) (s .has));
         }
 
     pub start-tells : Better-below bs 1 (first-state (e .i) (e .j)) → Begins-better bs (e .i) (e .j) (e .c)
@@ -173,31 +172,60 @@ module _ {t bs : List ℕ} (T : Tabled t bs) {e : Rec} (s : Seen-cable (decoded 
         (first-from (decoded (code-records bs)) _ _ (e .i) (e .j) (e .c) first-is (from m))
 
 -- BY NUMBER: the labels of a start and of the code's first record as one number each
-module _ {t bs : List ℕ} (T : Tabled t bs) {e : Rec} (s : Seen-cable (decoded (code-records bs)) e) {a b : ℕ} (p : Numbers-labels e a)
+module _ (bs : List ℕ) (ok : code-refusal bs ≡ 0) {e : Rec} (s : Seen-cable (decoded (code-records bs)) e) {a b : ℕ} (p : Numbers-labels e a)
     (q : Numbers-labels (rec-in (row 5 0 bs)) b) where
   number : Numbers-labels (begins e) a
   number = record { is = p .is; i-byte = p .i-byte; cable-byte = p .cable-byte; j-byte = p .j-byte }
 
   ends-are : (rec-in (row 5 0 bs) .i ≡ 0) × (rec-in (row 5 0 bs) .j ≡ 1)
-  ends-are = first-ends T s
+  ends-are = first-ends bs ok s
 
   pub lower-start : a < b → Begins-better bs (e .i) (e .j) (e .c)
-  lower-start h = start-before T s (lower-number (begins e) (rec-in (row 5 0 bs)) number q (omega arith) (sym (ends-are .0)) (sym (ends-are .1)) h)
+  lower-start h =
+      start-before bs ok s
+      (lower-number (begins e) (rec-in (row 5 0 bs)) number q (omega arith) (sym (ends-are .0)) (sym (ends-are .1)) h)
 
   pub higher-start : b < a → Begins-better bs (e .i) (e .j) (e .c) → ⊥
   higher-start h =
-      start-after T s (lower-number (rec-in (row 5 0 bs)) (begins e) q number (omega (arith, ends-are .0, ends-are .1)) (ends-are .0) (ends-are .1) h)
+      start-after bs ok s
+      (lower-number (rec-in (row 5 0 bs)) (begins e) q number (omega (arith, ends-are .0, ends-are .1)) (ends-are .0) (ends-are .1) h)
 
   pub same-start : a ≡ b → begins e ≡ rec-in (row 5 0 bs)
   same-start h = same-number (begins e) (rec-in (row 5 0 bs)) number q (omega arith) (sym (ends-are .0)) (sym (ends-are .1)) h
 
 -- the code's own start is that along its first record
 pub own-start :
-    {t bs : List ℕ} (T : Tabled t bs) {e : Rec} → Seen-cable (decoded (code-records bs)) e → e ≡ rec-in (row 5 0 bs)
+    (bs : List ℕ) (ok : code-refusal bs ≡ 0) {e : Rec} → Seen-cable (decoded (code-records bs)) e → e ≡ rec-in (row 5 0 bs)
     → (Better-below bs 1 (first-state 0 1) → ⊥) → Better-below bs 1 (first-state (e .i) (e .j)) → ⊥
-own-start {t} {bs} T {e} s is none =
-    subst (λ (w : ℕ). Better-below bs 1 (first-state (e .i) w) → ⊥) (sym (ap (λ (r : Rec). r .j) is ∙ first-ends T s .1))
-    (subst (λ (u : ℕ). Better-below bs 1 (first-state u 1) → ⊥) (sym (ap (λ (r : Rec). r .i) is ∙ first-ends T s .0)) none)
+own-start bs ok {e} s is none =
+    subst (λ (w : ℕ). Better-below bs 1 (first-state (e .i) w) → ⊥) (sym (ap (λ (r : Rec). r .j) is ∙ first-ends bs ok s .1))
+    (subst (λ (u : ℕ). Better-below bs 1 (first-state u 1) → ⊥) (sym (ap (λ (r : Rec). r .i) is ∙ first-ends bs ok s .0)) none)
+
+-- EVERY CABLE is that of some record
+pub record Cable-record (bs : List ℕ) (u w k : ℕ) : Type 0 where
+  pub at : ℕ
+  pub low : at < length bs / 5
+  pub joins : Joins u w (cable-of (rec-in (row 5 at bs)))
+  pub kind-is : rec-in (row 5 at bs) .c ≡ k
+
+pub cable-record : (bs : List ℕ) (u w k : ℕ) → Has u w k (decoded (code-records bs) .cables) → Cable-record bs u w k
+unfolding cable-of
+cable-record bs u w k h = go (cable-place (decoded (code-records bs) .cables) h)
+  where
+    go : Cable-place u w k (decoded (code-records bs) .cables) → Cable-record bs u w k
+    go p =
+        record {
+          at = p .at;
+          low = low;
+          joins = rw is at (p .joins (cable-of (rec-in (row 5 (p .at) bs))));
+          kind-is = rw is at (p .kind-is (cable-of (rec-in (row 5 (p .at) bs))));
+        }
+      where
+        low : p .at < length bs / 5
+        low = omega (arith, p .below, code-cables bs)
+
+        is : getD (decoded (code-records bs) .cables) (p .at) (cable-of (rec-in (row 5 (p .at) bs))) ≡ cable-of (rec-in (row 5 (p .at) bs))
+        is = record-cable bs (p .at) low (rec-in (row 5 (p .at) bs)) refl
 
 -- ALL STARTS, record by record
 module _ (bs : List ℕ) where
@@ -226,28 +254,18 @@ module _ (bs : List ℕ) where
       against-at m h x q y (yes l) = before .against m l x q y
       against-at m h x q y (no l) = b (rw (same m h l x q) at y)
 
-  -- every cable is that of some record
   pub tried-all : (n : ℕ) → length bs / 5 ≤ n → Tried bs n → Some-start (code-records bs) → ⊥
   unfolding cable-of
-  tried-all n h T s = go (cable-place (decoded (code-records bs) .cables) (s .has))
+  tried-all n h T s = go (cable-record bs (s .u) (s .w) (s .k) (s .has))
     where
-      go : Cable-place (s .u) (s .w) (s .k) (decoded (code-records bs) .cables) → ⊥
-      go p = end (rw is at (p .joins (cable-of e))) (rw is at (p .kind-is (cable-of e)))
+      go : Cable-record bs (s .u) (s .w) (s .k) → ⊥
+      go p = end (p .joins)
         where
-          e : Rec
-          e = rec-in (row 5 (p .at) bs)
-
-          low : p .at < length bs / 5
-          low = omega (arith, p .below, code-cables bs)
-
-          is : getD (decoded (code-records bs) .cables) (p .at) (cable-of e) ≡ cable-of e
-          is = record-cable bs (p .at) low e refl
-
-          end : Joins (s .u) (s .w) (cable-of e) → cable-of e .kind ≡ s .k → ⊥
-          end (along x y) z =
-              T .along (p .at) (omega (arith, low)) e refl (rw (x, y, z) (s .better))
-          end (against x y) z =
-              T .against (p .at) (omega (arith, low)) e refl (rw (x, y, z) (s .better))
+          end : Joins (s .u) (s .w) (cable-of (rec-in (row 5 (p .at) bs))) → ⊥
+          end (along x y) =
+              T .along (p .at) (omega (arith, p .low)) (rec-in (row 5 (p .at) bs)) refl (rw (x, y, p .kind-is) (s .better))
+          end (against x y) =
+              T .against (p .at) (omega (arith, p .low)) (rec-in (row 5 (p .at) bs)) refl (rw (x, y, p .kind-is) (s .better))
 
 -- A CODE IS LEAST exactly if no start comes before it
 branch-clash :

@@ -1,8 +1,8 @@
 // Whether a branch that follows a code sees a record before the code's own: at each numbering of the code's first records it looks for
 // one before the next. Numbers are given in place and taken back, so that no array is copied.
+use branches::branch::device_at;
 use least_seen::seen::chord_order;
 use least_seen::seen::counted_label;
-use least_seen::seen::device_at;
 use least_seen::seen::is_lower;
 use least_seen::seen::place_of;
 use least_seen::seen::some_before;
@@ -16,7 +16,8 @@ ghost use Rattle.laws.specs.Decides.{Decides};
 ghost use Rattle.codes.specs.BranchState.{first-state};
 ghost use Rattle.codes.specs.Twins.{Twins-noted};
 ghost use Rattle.least_seen.specs.Betters.{Better-below};
-ghost use Rattle.least_seen.specs.Accepting.{in-place, Test-goes-on, Goes-ahead, Taken-back};
+ghost use Rattle.branches.specs.Branches.{in-place};
+ghost use Rattle.least_seen.specs.Accepting.{Test-goes-on, Goes-ahead, Taken-back};
 
 // Whether a branch that has followed the first t records sees one before record t, or leads to one that sees one later.
 // Where it does not, each number given is taken back.

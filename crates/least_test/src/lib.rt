@@ -2,5 +2,3 @@
 // of the public crates ask nothing.
 pub mod better; // better.rt: whether a branch that follows a code sees a record before the code's own
 pub mod starts; // starts.rt: whether some start of what a code describes leads to a code before it
-pub mod ties; // ties.rt: records of a code that could have gone elsewhere
-pub mod grown; // grown.rt: whether a code that has grown is the least

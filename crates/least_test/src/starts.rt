@@ -12,15 +12,28 @@ ghost use Rattle.codes.specs.Code.{decoded, code-records, rec-in};
 ghost use Rattle.codes.specs.BranchState.{first-state};
 ghost use Rattle.codes.specs.Twins.{Twins-noted};
 ghost use Rattle.tables.specs.Records.{as-rec};
-ghost use Rattle.least_seen.specs.Betters.{Better-below, Seen-cable, Begins-better, Some-start};
+ghost use Rattle.least_seen.specs.Betters.{Better-below, Seen-cable, reversed-record, Begins-better, Some-start};
 ghost use Rattle.least_seen.specs.Accepting.{Test-counts};
 ghost use Rattle.least_test.specs.LabelNumbers.{Numbers-labels};
 
 // The labels of a record as one number that rises as they do: kind of i, cable kind, kind of j.
-fn labels_number(r: Record) -> u32
+pub fn labels_number(r: Record) -> u32
     ensures { λ l. ⌜ Numbers-labels (as-rec r) l ⌝ }
 {
     65536 * (r.ki as u32) + (256 * (r.c as u32) + r.kj as u32)
+}
+
+// A cable seen from its other end.
+pub fn reversed(cable: Record) -> Record
+    ensures { λ r. ⌜ as-rec r ≡ reversed-record (as-rec cable) ⌝ }
+{
+    Record {
+        i: cable.j,
+        j: cable.i,
+        ki: cable.kj,
+        c: cable.c,
+        kj: cable.ki,
+    }
 }
 
 // Whether a code that begins with a cable, seen from its i, comes before this one, whose first record has the labels `first`. Its
@@ -85,14 +98,7 @@ pub fn some_start_better(
         if start_better(table, twins, code, m, n, first, cable, followed(own, k)) {
             return true;
         }
-        let reversed = Record {
-            i: cable.j,
-            j: cable.i,
-            ki: cable.kj,
-            c: cable.c,
-            kj: cable.ki,
-        };
-        if start_better(table, twins, code, m, n, first, reversed, true) {
+        if start_better(table, twins, code, m, n, first, reversed(cable), true) {
             return true;
         }
     }

@@ -2,27 +2,24 @@
 use mathlib.Core.Path.{_≡_, refl, sym, ap, _∙_, subst}
 use mathlib.Core.Bool.{Bool, true, false}
 use mathlib.Core.List.{List, [], _∷_, _++_, map}
-use Prim.Native.Nat.{ℕ, suc, _+_, _*_, _≤_, _<_}
+use Prim.Native.Nat.{ℕ, _+_, _≤_, _<_}
 use native.Mathlib.Numerals.{add-one}
 use native.Mathlib.Omega.{arith}
 use lib.ListN.{length, getD}
-use Rattle.laws.specs.Lists.{Mem, concat}
+use Rattle.laws.specs.Lists.{concat}
 use Rattle.graphs.specs.Drawing.{Drawing}
-use Rattle.codes.specs.Code.{Rec, decoded, kinds-before, before-by}
+use Rattle.codes.specs.Code.{Rec, fresh, rows-refusal, decoded, kinds-before, before-by}
 use Rattle.codes.specs.CodeOrder.{kinds-order, difference-decides}
 use Rattle.codes.specs.Greedy.{Greedy}
+use Rattle.codes.specs.ReadRows.{rows-nil}
 use Rattle.growth.specs.Catalogue.{all-bytes}
-use Rattle.growth.specs.Growth.{Listed-by, listed-none}
+use Rattle.growth.specs.Growth.{listed-none}
 use Rattle.growth.specs.Frequent.{Frequent}
-use Rattle.growth.specs.Places.{place-of}
 use Rattle.growth.specs.PlacedRecords.{alone}
 use Rattle.growth.specs.CountingExtensions.{First-of, Counting}
 use Rattle.growth.specs.ListedBy.{Chosen-places, Chosen-cells, place-in, records-at, chosen-places, listed-join}
 use Rattle.growth.specs.Firsts.{Firsts, firsts-none, firsts-skip, firsts-apart, firsts-next, firsts-listed}
-use Rattle.growth.specs.Output.{Done}
 use Rattle.growth.specs.Walking.{Ahead-of}
-use Rattle.readings.specs.declared.reading.Reading as held
-use Rattle.readings.specs.Readings.{Not-begun}
 use Rattle.growing.specs.declared.grow.Growth.{Growth}
 use Rattle.growing.specs.declared.grow.Growth.the-variants.{To, Full}
 use Rattle.growing.specs.declared.grow.Settings.{Settings}
@@ -31,17 +28,7 @@ use Rattle.walks.specs.Prepared.{Counted-cells}
 use Rattle.walks.specs.PreparedLaws.{prepared-few, prepared-patterns}
 use Rattle.laws.specs.Parts.{part}
 use Rattle.walks.specs.Choices.{Of-sets, Can-choose, Chose}
-use Rattle.candidates.specs.HeldCode.{records-of}
-use Rattle.candidates.specs.HeldCodeLaws.{no-records, holding-new}
-use Rattle.growing.specs.GrowthOutcomes.{
-  Fit,
-  Lists,
-  Lists-more,
-  Too-many,
-  Can-walk-candidates,
-  Candidates-walked,
-  candidates-in,
-}
+use Rattle.growing.specs.GrowthOutcomes.{Fit, Can-walk-candidates, Candidates-walked}
 use Rattle.walks.specs.Kinds.{Occurs}
 use Rattle.walks.specs.KindLaws.{no-first}
 use Rattle.mining.specs.SurveyMined.{Can-mine, Mined, Kinds-done}
@@ -123,8 +110,8 @@ module _ {survey labels rank alphabet : List ℕ} {g : Settings} {cells seen lis
           room = omega arith;
         }
 
-    module _ {cells₃ list₃ : List ℕ} {top : ℕ} (t : Chose cells₂ (g .threshold) list₁ 0 cells₃ seen₂ list₃ top) {h : held.Reading}
-        (n : Not-begun h) where
+    module _ {cells₃ list₃ : List ℕ} {top : ℕ} (t : Chose cells₂ (g .threshold) list₁ 0 cells₃ seen₂ list₃ top) {γ : List Rec}
+        (n : γ ≡ []) where
       chosen-cells : Chosen-cells (c .sets) (g .threshold) (g .labels) (part 0 top list₃)
       chosen-cells = t .chosen (c .sets) of-sets (g .labels) (a .set-up .prepared .ranks .most)
 
@@ -134,18 +121,18 @@ module _ {survey labels rank alphabet : List ℕ} {g : Settings} {cells seen lis
       abbrev news : List Rec
       news = records-at (alone k) alphabet (g .labels) (map place-in (part 0 top list₃))
 
-      pub mine-walks : Can-walk-candidates survey labels rank alphabet g h k cells₃ seen₂ list₃ 0 top out₁ written
+      pub mine-walks : Can-walk-candidates survey labels rank alphabet g γ k cells₃ seen₂ list₃ 0 top out₁ written
       mine-walks =
           record {
             set-up = a .set-up;
-            holding = holding-new n;
-            more = omega (arith, n .no-record, a .some);
-            greedy = greedy-none (records-of h) (no-records n);
+            accepted = ap (rows-refusal fresh) n ∙ rows-nil fresh;
+            more = omega (arith, ap length n, a .some);
+            greedy = greedy-none γ n;
             sets = c .sets;
-            counting = fit-first k (records-of h) (no-records n) (c .counting);
+            counting = fit-first k γ n (c .counting);
             chosen = chosen-cells;
             low = t .low;
-            at-hand = record { blank = t .blank; list-size = t .kept .size; room = omega (arith, t .high, n .no-record) };
+            at-hand = record { blank = t .blank; list-size = t .kept .size; room = omega (arith, t .high, ap length n) };
             out-room = w .room;
           }
 
@@ -164,15 +151,15 @@ module _ {survey labels rank alphabet : List ℕ} {g : Settings} {cells seen lis
           }
 
       module _ {cells₄ seen₄ list₄ out₄ : List ℕ} where
-        went : {r : Growth} → Candidates-walked survey alphabet g k (records-of h) cells₄ seen₄ list₃ 0 top list₄ out₁ written r out₄
+        went : {r : Growth} → Candidates-walked survey alphabet g k γ cells₄ seen₄ list₃ 0 top list₄ out₁ written r out₄
             → Candidates-walked survey alphabet g k [] cells₄ seen₄ list₃ 0 top list₄ out₁ written r out₄
-        went {r} = subst (λ (γ : List Rec). Candidates-walked survey alphabet g k γ cells₄ seen₄ list₃ 0 top list₄ out₁ written r out₄) (no-records n)
+        went {r} = subst (λ (δ : List Rec). Candidates-walked survey alphabet g k δ cells₄ seen₄ list₃ 0 top list₄ out₁ written r out₄) n
 
-        pub mine-full : Candidates-walked survey alphabet g k (records-of h) cells₄ seen₄ list₃ 0 top list₄ out₁ written Full out₄
+        pub mine-full : Candidates-walked survey alphabet g k γ cells₄ seen₄ list₃ 0 top list₄ out₁ written Full out₄
             → Mined survey g out Full out₄
         mine-full v = went v .told (w .codes) out ahead (w .lists)
 
-        pub mine-next : {m : ℕ} → k < 256 → Candidates-walked survey alphabet g k (records-of h) cells₄ seen₄ list₃ 0 top list₄ out₁ written
+        pub mine-next : {m : ℕ} → k < 256 → Candidates-walked survey alphabet g k γ cells₄ seen₄ list₃ 0 top list₄ out₁ written
             (To m) out₄
             → Kinds-done survey g out (k + 1) cells₄ seen₄ list₄ out₄ m
         mine-next {m} low v =

@@ -8,7 +8,7 @@ use growing::grow::walk;
 use listing::level::ENDS;
 use listing::rows::KEPT;
 use marking::cells::PLACES;
-use readings::reading::Reading;
+use records::code::Code;
 use surveys::kinds::KINDS;
 use surveys::kinds::kinds_of;
 use surveys::labels::TABLES;
@@ -17,7 +17,7 @@ use surveys::ranks::LABELS;
 ghost use Rattle.walks.specs.EmbeddingLists.{Lists-sized};
 ghost use Rattle.mining.specs.SurveyMined.{Can-mine, Mined};
 
-// Writes an entry for every pattern that enough drawings contain.
+// Writes an entry for every pattern that enough drawings contain. Its codes grow in place in two arrays.
 pub fn mine(
     survey: &[u8],
     labels: &[u32; TABLES],
@@ -42,13 +42,18 @@ pub fn mine(
         if occurs[kind] {
             let found = count_firsts(survey, labels, rank, n, kind as u8, cells, seen);
             let top = choose(cells, seen, found, settings.threshold, list, 0);
+            let mut code = [0; Code::BYTES];
+            let mut kinds = [0; 10];
             let Growth::To(count) = walk(
                 survey,
                 labels,
                 rank,
                 alphabet,
                 settings,
-                Reading::new(),
+                &mut code,
+                &mut kinds,
+                0,
+                0,
                 kind as u8,
                 cells,
                 seen,

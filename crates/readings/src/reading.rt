@@ -2,6 +2,7 @@
 use records::code::Code;
 use records::drawing::Drawing;
 use tables::record::Record;
+use tables::record::put_record;
 ghost use mathlib.Core.Path.{_≡_};
 ghost use mathlib.Core.Bool.{true};
 ghost use Prim.Native.Nat.{_≤_, _<_};
@@ -45,13 +46,9 @@ pub fn with_record(mut code: Code, next: Record) -> Code
     requires { ⌜ code .count < 20 ⌝ }
     ensures { λ r. ⌜ Appended code (as-rec next) r ⌝ }
 {
-    let at = Code::RECORD_BYTES * code.count;
-    code.records[at] = next.i;
-    code.records[at + 1] = next.j;
-    code.records[at + 2] = next.ki;
-    code.records[at + 3] = next.c;
-    code.records[at + 4] = next.kj;
-    code.count = code.count + 1;
+    let k = code.count;
+    put_record(&mut code.records, k, next);
+    code.count = k + 1;
     code
 }
 

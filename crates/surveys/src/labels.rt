@@ -1,4 +1,6 @@
-// The tables of labels of a survey's drawings: one of a hundred labels for each, one after another.
+// The tables of labels of a survey's drawings: one of a hundred labels for each, one after another; and their slots.
+use neighbours::slots::ends_of;
+use neighbours::slots::slots_of;
 use records::drawing::Drawing;
 use records::survey::Survey;
 use tables::table::CELLS;
@@ -11,14 +13,16 @@ ghost use Rattle.graphs.specs.Survey.{bytes-refusal};
 ghost use Rattle.codes.specs.BranchState.{label-at};
 ghost use Rattle.laws.specs.PutRecords.{put-record};
 ghost use Rattle.growth.specs.Sizes.{tables-size};
-ghost use Rattle.walks.specs.DrawingTables.{Tables};
+ghost use Rattle.walks.specs.Slots.{slot-at, drawing-slots, drawing-ends};
+ghost use Rattle.walks.specs.SlotsMade.{Low-labels};
+ghost use Rattle.walks.specs.DrawingTables.{Drawing-put, Tables};
 
-// A table for each drawing that a survey may have.
-pub const TABLES: usize = Survey::MOST_DRAWINGS * CELLS;
+// For each drawing that a survey may have a table of labels; then the slots of each; then where the slots' groups end.
+pub const TABLES: usize = 3 * Survey::MOST_DRAWINGS * CELLS;
 
-// Puts a drawing's table in its place.
+// Puts a table into place d: first the tables of labels have theirs, then the slots, then the ends.
 fn put_table(table: &[u32; CELLS], d: usize, labels: &mut [u32; TABLES])
-    requires { ⌜ (d < 32) × (length (now table) ≡ 100) × (length (now labels) ≡ tables-size) ⌝ }
+    requires { ⌜ (d < 96) × (length (now table) ≡ 100) × (length (now labels) ≡ tables-size) ⌝ }
     ensures { λ _. ⌜ now (labels .exit) ≡ put-record 100 d (now (table .entry)) (now (labels .entry)) ⌝ }
 {
     let at = CELLS * d;
@@ -27,7 +31,19 @@ fn put_table(table: &[u32; CELLS], d: usize, labels: &mut [u32; TABLES])
     }
 }
 
-// The tables of all drawings of an accepted survey. What lies past the last is as it was.
+// Puts a drawing's table in its place, with its slots and where their groups end.
+fn put_drawing(table: &[u32; CELLS], d: usize, labels: &mut [u32; TABLES])
+    requires { ⌜ (d < 32) × (length (now table) ≡ 100) × (length (now labels) ≡ tables-size) × Low-labels (now table) ⌝ }
+    ensures { λ _. ⌜ Drawing-put (now (table .entry)) d (now (labels .entry)) (now (labels .exit)) ⌝ }
+{
+    let slots = slots_of(table);
+    let ends = ends_of(&slots);
+    put_table(table, d, labels);
+    put_table(&slots, Survey::MOST_DRAWINGS + d, labels);
+    put_table(&ends, 2 * Survey::MOST_DRAWINGS + d, labels);
+}
+
+// The tables of all drawings of an accepted survey, and their slots. What lies past the last is as it was.
 pub fn fill_labels(survey: &[u8], labels: &mut [u32; TABLES])
     requires { ⌜ (bytes-refusal (now survey) .number ≡ 0) × (length (now labels) ≡ tables-size) ⌝ }
     ensures { λ _. ⌜ Tables (now (survey .entry)) (now (labels .exit)) ⌝ }
@@ -37,7 +53,7 @@ pub fn fill_labels(survey: &[u8], labels: &mut [u32; TABLES])
         let at = Drawing::BYTES * d;
         let end = at + Drawing::BYTES;
         let table = labels_of_drawing(&survey[at..end]);
-        put_table(&table, d, labels);
+        put_drawing(&table, d, labels);
     }
 }
 
@@ -47,4 +63,28 @@ pub fn label_in(labels: &[u32; TABLES], d: usize, u: usize, v: usize) -> u32
     ensures { λ r. ⌜ r ≡ label-at (row 100 d (now (labels .entry))) u v ⌝ }
 {
     labels[CELLS * d + (Drawing::MOST_DEVICES * u + v)]
+}
+
+// Slot k of device u of drawing d: 256 times a label and the device that it leads to, or 0 for none.
+pub fn slot_in(labels: &[u32; TABLES], d: usize, u: usize, k: usize) -> u32
+    requires { ⌜ (d < 32) × (u < 10) × (k < 10) ⌝ }
+    ensures { λ r. ⌜ r ≡ slot-at (drawing-slots (now (labels .entry)) d) u k ⌝ }
+{
+    labels[CELLS * (Survey::MOST_DRAWINGS + d) + (Drawing::MOST_DEVICES * u + k)]
+}
+
+// An entry as a number of slots.
+fn wide(x: u32) -> usize
+    ensures { λ r. ⌜ r ≡ x ⌝ }
+{
+    x as usize
+}
+
+// Where the group of slot k ends: the slots up to there have one label.
+pub fn group_end(labels: &[u32; TABLES], d: usize, u: usize, k: usize) -> usize
+    requires { ⌜ (d < 32) × (u < 10) × (k < 10) ⌝ }
+    ensures { λ r. ⌜ r ≡ slot-at (drawing-ends (now (labels .entry)) d) u k ⌝ }
+{
+    let at = CELLS * (2 * Survey::MOST_DRAWINGS + d) + (Drawing::MOST_DEVICES * u + k);
+    wide(labels[at])
 }

@@ -1,10 +1,11 @@
 // One record of a code, and the order of two: what a code differs by first.
 use records::code::Code;
 ghost use mathlib.Core.Path.{_≡_};
-ghost use Prim.Native.Nat.{_+_, _*_, _≤_};
+ghost use Prim.Native.Nat.{_+_, _*_, _≤_, _<_};
 ghost use lib.ListN.{length};
 ghost use Rattle.laws.specs.Rows.{row};
 ghost use Rattle.codes.specs.Code.{rec-in};
+ghost use Rattle.codes.specs.RecordPut.{Record-put};
 ghost use Rattle.tables.specs.Records.{as-rec, order-of, numbers-order, labels-order, then};
 
 // The devices i and j that a cable joins, the kind of i, the kind of the cable, the kind of j.
@@ -91,4 +92,17 @@ impl Record {
         let backward = compare_numbers(self.i, other.i).then(labels);
         compare_numbers(self.j, other.j).then(backward)
     }
+}
+
+// Writes a record behind m others.
+pub fn put_record(code: &mut [u8; Code::BYTES], m: usize, next: Record)
+    requires { ⌜ (m < 20) × (length (now code) ≡ 100) ⌝ }
+    ensures { λ _. ⌜ Record-put (now (code .entry)) m (as-rec next) (now (code .exit)) ⌝ }
+{
+    let at = Code::RECORD_BYTES * m;
+    code[at] = next.i;
+    code[at + 1] = next.j;
+    code[at + 2] = next.ki;
+    code[at + 3] = next.c;
+    code[at + 4] = next.kj;
 }

@@ -5,7 +5,7 @@ use mathlib.Core.List.{List, []}
 use Prim.Native.Nat.{ℕ, _+_, _*_, _-_, _≤_, _<_}
 use native.Mathlib.Nat.{not-suc-le-zero}
 use native.Mathlib.Omega.{arith}
-use native.Mathlib.Decide.{decLt}
+use native.Mathlib.Decide.{ℕ-discrete, decLt}
 use lib.ListN.{length, getD, take, drop, set, length-set}
 use lib.Seq.{getD-set-same, getD-set-other}
 use Rattle.laws.specs.Tests.{true-and-false}
@@ -22,21 +22,22 @@ use Rattle.walks.specs.Prepared.{Prepared}
 use Rattle.walks.specs.PreparedLaws.{drawings-counted, drawing-read, prepared-accepted, prepared-pattern}
 use Rattle.walks.specs.Kinds.{Noted, Occurs-before, Occurs}
 
+-- ONE NOTE MORE: what was noted is
+pub note-kept :
+    (marks : List Bool) (i : ℕ) → i < length marks → (k : ℕ) → getD marks k false ≡ true → getD (set marks i true) k false ≡ true
+note-kept marks i low k h = go (ℕ-discrete k i)
+  where
+    go : Dec (k ≡ i) → getD (set marks i true) k false ≡ true
+    go (yes e) = rw e (getD-set-same marks i true false low)
+    go (no e) = getD-set-other marks i k true false e ∙ h
+
 -- PLACE BY PLACE
 pub noted-none : (bs : List ℕ) (marks : List Bool) → length marks ≡ 256 → Noted bs 0 marks marks
 noted-none bs marks e = record { size = e; kept = λ k h. h; noted = λ u h. absurd (not-suc-le-zero h) }
 
 module _ (bs : List ℕ) (n : ℕ) (before marks : List Bool) (w : Noted bs n before marks) (low : getD bs (2 + n) 0 < 256) where
   stays : (k : ℕ) → getD marks k false ≡ true → getD (set marks (getD bs (2 + n) 0) true) k false ≡ true
-  stays k h = go (decLt k (getD bs (2 + n) 0)) (decLt (getD bs (2 + n) 0) k)
-    where
-      go : Dec (k < getD bs (2 + n) 0) → Dec (getD bs (2 + n) 0 < k) → getD (set marks (getD bs (2 + n) 0) true) k false ≡ true
-      go (yes l) z = getD-set-other marks (getD bs (2 + n) 0) k true false (λ e. omega arith) ∙ h
-      go (no l) (yes z) = getD-set-other marks (getD bs (2 + n) 0) k true false (λ e. omega arith) ∙ h
-      go (no l) (no z) =
-          let e : k ≡ getD bs (2 + n) 0 = omega arith in
-          ap (λ (i : ℕ). getD (set marks (getD bs (2 + n) 0) true) i false) e ∙ getD-set-same marks (getD bs (2 + n) 0) true false
-          (omega (arith, w .size))
+  stays = note-kept marks (getD bs (2 + n) 0) (omega (arith, w .size))
 
   pub noted-next : Noted bs (n + 1) before (set marks (getD bs (2 + n) 0) true)
   noted-next =

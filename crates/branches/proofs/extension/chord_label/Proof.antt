@@ -2,6 +2,7 @@
 use mathlib.Core.Path.{sym}
 use native.Mathlib.Omega.{arith}
 use borrow.Author.Needs.{needs}
+use Rattle.branches.specs.InPlaceLaws.{places-at}
 use Rattle.branches.proofs.extension.chord_label.Statement.{statement}
 use Rattle.branches.proofs.extension.chord_label.Tie as tie
 
@@ -15,27 +16,31 @@ element-copy-out-if2 : tie.Need-element-copy-out-if2
 element-copy-out-if2 c = search needs
 
 cast-if2 : tie.Need-cast-if2
-cast-if2 c = search needs
+cast-if2 c =
+    let s = c .before .before in
+    omega (arith, s .pre .0 .on-path (s .args .q) (s .pre .1))
 
 returns-2 : tie.Need-returns-2
 returns-2 c = search needs
 
-sub-device : tie.Need-sub-device
-sub-device c = search needs
+sub-device-at : tie.Need-sub-device-at
+sub-device-at c = search needs
 
-device-requires : tie.Need-device-requires
-device-requires c κs = (c .before .before .before .pre .0, omega arith)
+device-at-requires : tie.Need-device-at-requires
+device-at-requires c κs = places-at (c .before .before .before .pre .0) _ (omega arith)
 
-device-requires-2 : tie.Need-device-requires-2
-device-requires-2 c κs = c .before .before .before .before .pre
+device-at-requires-2 : tie.Need-device-at-requires-2
+device-at-requires-2 c κs =
+    let s = c .before .before .before .before in
+    places-at (s .pre .0) (s .args .q) (s .pre .1)
 
 label-requires : tie.Need-label-requires
-label-requires c κs = (c .before .device .ensures .1, c .device2 .ensures .1)
+label-requires c κs = search needs
 
 returns-3 : tie.Need-returns-3
-returns-3 c =
+returns-3 c used given =
     record {
-      label = λ o. rw (← c .before .before .device .ensures .0, ← c .before .device2 .ensures .0) (sym (c .label .ensures));
+      label = λ o. rw (← c .before .before .device-at .ensures .0, ← c .before .device-at2 .ensures .0) (sym (c .label .ensures));
       place = λ h. record { inner = omega arith; high = omega arith };
     }
 
@@ -48,8 +53,8 @@ chord-label-spec =
     element-copy-out-if2
     cast-if2
     returns-2
-    sub-device
-    device-requires
-    device-requires-2
+    sub-device-at
+    device-at-requires
+    device-at-requires-2
     label-requires
     returns-3)

@@ -14,13 +14,18 @@ enum-told : tie.Need-enum-told
 enum-told c = search needs
 
 deepest-edge-requires : tie.Need-deepest-edge-requires
-deepest-edge-requires c κs = (search needs, rw (c .enum-told .given .1) at (c .before .before .first-chord .ensures))
+deepest-edge-requires c κs = search needs
 
 returns : tie.Need-returns
-returns c = rw (c .before .q .given .1) at (c .before .before .before .first-chord .ensures)
+returns c given =
+    let h = c .before .before .before in
+    rw (c .before .q .given .1) at (h .first-chord .ensures (h .before .args .used .now) given)
 
 returns-2 : tie.Need-returns-2
-returns-2 c = search needs
+returns-2 c given =
+    let h = c .before .before .before in
+    let a = h .before .args in
+    c .deepest-edge .ensures given (a .low) (rw (c .before .enum-told .given .1) at (h .first-chord .ensures (a .used .now) given))
 
 pub least-extension-spec : {M : Type 1} → statement M
 least-extension-spec =

@@ -1,5 +1,4 @@
 -- `growing::next_record` meets its contract: what each branch makes is the record at the place. Assumes nothing.
-use mathlib.Core.Path.{_≡_, _∙_}
 use native.Mathlib.Omega.{arith}
 use borrow.Author.Needs.{needs}
 use Rattle.candidates.specs.NextRecordLaws.{
@@ -31,7 +30,7 @@ labelled-requires : tie.Need-labelled-requires
 labelled-requires c κs = let p = c .before .before .pre .can-read in (omega arith, omega arith, label-some p, label-most p)
 
 returns : tie.Need-returns
-returns c = off-first _ (c .before .if1 .taken) (c .labelled .ensures)
+returns c = off-first (c .before .before .before .pre .wide) _ (c .before .if1 .taken) (c .labelled .ensures)
 
 sub-newest : tie.Need-sub-newest
 sub-newest c = search needs
@@ -48,7 +47,7 @@ labelled-requires-2 c κs =
 returns-2 : tie.Need-returns-2
 returns-2 c =
     let s = c .before .before .before .before .before in
-    off-backward _ (c .before .before .before .if1 .left) (s .pre .wide) (c .before .before .if2 .taken) (c .labelled2 .ensures)
+    off-backward (s .pre .wide) _ (c .before .before .before .if1 .left) (c .before .before .if2 .taken) (c .labelled2 .ensures)
 
 sub-from : tie.Need-sub-from
 sub-from c = row-most (c .before .before .before .pre .can-read)
@@ -65,7 +64,7 @@ labelled-requires-3 c κs =
 returns-3 : tie.Need-returns-3
 returns-3 c =
     let s = c .before .before .before .before .before in
-    off-forward _ (c .before .before .before .if1 .left) (s .pre .wide) (omega (arith, c .before .before .if2 .left)) (c .labelled3 .ensures)
+    off-forward (s .pre .wide) _ (c .before .before .before .if1 .left) (omega (arith, c .before .before .if2 .left)) (c .labelled3 .ensures)
 
 pub next-record-spec : {M : Type 1} → statement M
 next-record-spec =

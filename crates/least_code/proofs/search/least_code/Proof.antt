@@ -1,33 +1,24 @@
 -- `search::least_code` meets its contract. The invariant: the cables before c are seen, both ways round. Assumes nothing.
-use mathlib.Core.Path.{sym, _∙_}
+use mathlib.Core.Path.{_≡_, refl, sym, _∙_}
 use Prim.Native.Nat.{_-_, _≤_}
 use native.Mathlib.Omega.{arith}
+use lib.ListN.{length}
 use borrow.Author.Needs.{needs}
 use Rattle.graphs.specs.Drawing.{drawing-in}
 use Rattle.graphs.specs.Patterns.{accepted-parts}
-use Rattle.readings.specs.Readings.{held-records}
+use Rattle.codes.specs.Code.{recs-in}
 use Rattle.tables.specs.TableOfDrawing.{record-pattern}
-use Rattle.least_code.specs.Searches.{Given}
-use Rattle.least_code.specs.SearchStarts.{Starts}
-use Rattle.least_code.specs.SearchStartCalls.{
-  no-record-yet,
-  Seen-before,
-  Seen-half,
-  none-seen,
-  all-seen,
-  first-start,
-  first-seen,
-  second-start,
-  second-seen,
-}
+use Rattle.least_code.specs.Searches.{Given, Starts, Seen-before}
+use Rattle.least_code.specs.SearchStartCalls.{no-rows, none-seen, all-seen}
 use Rattle.least_code.proofs.search.least_code.Statement.{statement}
 use Rattle.least_code.proofs.search.least_code.Tie as tie
 
 abbrev Inv-loop : tie.InvT-loop
-Inv-loop drawing m table twins best₀ c₀ best c = (c ≤ m) × Starts (drawing-in drawing) (held-records best) (Seen-before drawing c)
+Inv-loop drawing m table twins records₀ held₀ c₀ records held c =
+    (c ≤ m) × (length records ≡ 100) × Starts (drawing-in drawing) (recs-in held records) (Seen-before drawing c)
 
 abbrev μ-loop : tie.MeasureT-loop
-μ-loop drawing m table twins best₀ c₀ best c = m - c
+μ-loop drawing m table twins records₀ held₀ c₀ records held c = m - c
 
 labels-of-drawing-requires : tie.Need-labels-of-drawing-requires Inv-loop μ-loop
 labels-of-drawing-requires c κs = c .before .pre .0
@@ -49,69 +40,31 @@ given-at c =
 twins-of-requires : tie.Need-twins-of-requires Inv-loop μ-loop
 twins-of-requires c κs = search needs
 
-new-requires : tie.Need-new-requires Inv-loop μ-loop
-new-requires c κs = search needs
-
 loop-holds : tie.Need-loop-holds Inv-loop μ-loop
-loop-holds c = (search needs, none-seen (given-at (c .before .before .before)) _ (no-record-yet (c .new .result) (c .new .ensures .records-none)))
+loop-holds c = (search needs, refl, none-seen (given-at (c .before .before)) _ (no-rows _))
 
-at-requires : tie.Need-at-requires Inv-loop μ-loop
-at-requires c κs = search needs
-
-start-requires : tie.Need-start-requires Inv-loop μ-loop
-start-requires c κs =
-    let a = c .before .before in
-    let l = a .before .before in (
-      first-start (given-at (l .before .before .before .before)) (l .loop .c) (a .before .loop-test .taken) _ _ _ (a .at .ensures) _
-          (l .loop .inv .1),
-      l .before .before .twins-of .ensures,
-    )
-
--- the cable is seen one way round
-half-seen :
-    (c : tie.After-start Inv-loop μ-loop)
-    → let a = c .before .before .before in
-    let bs = a .before .before .before .before .before .before .before .before .args .drawing .now in
-    Starts (drawing-in bs) (held-records (c .start .result))
-    (Seen-half bs (a .before .before .loop .c) (a .at .result .a) (a .at .result .b) (a .at .result .kind))
-half-seen c =
-    let a = c .before .before .before in
-    let l = a .before .before in
-    first-seen (given-at (l .before .before .before .before)) (l .loop .c) (a .before .loop-test .taken) _ _ _ (a .at .ensures) _ (l .loop .inv .1) _
-    (c .start .ensures)
-
-start-requires-2 : tie.Need-start-requires-2 Inv-loop μ-loop
-start-requires-2 c κs =
-    let h = c .before .before in
-    let a = h .before .before .before in
-    let l = a .before .before in (
-      second-start (given-at (l .before .before .before .before)) (l .loop .c) (a .before .loop-test .taken) _ _ _ (a .at .ensures) _ (half-seen h),
-      l .before .before .twins-of .ensures,
-    )
+start-either-requires : tie.Need-start-either-requires Inv-loop μ-loop
+start-either-requires c κs =
+    let i = c .before .before .before in
+    let l = i .before in
+    (given-at (l .before .before .before), i .loop-test .taken, l .loop .inv .2, l .before .twins-of .ensures, l .loop .inv .1)
 
 add-c : tie.Need-add-c Inv-loop μ-loop
 add-c c =
-    let i = c .before .before .before .before .before .before .before in
-    let s = i .before .before .before .before .before .before .before in
+    let i = c .before .before .before .before in
+    let s = i .before .before .before .before .before .before in
     omega (arith, i .loop-test .taken, s .fits .m)
 
 loop-less : tie.Need-loop-less Inv-loop μ-loop
 loop-less c = search needs
 
 loop-again : tie.Need-loop-again Inv-loop μ-loop
-loop-again c =
-    let h = c .before .before .before in
-    let a = h .before .before .before in
-    let l = a .before .before in (
-      search needs,
-      second-seen (given-at (l .before .before .before .before)) (l .loop .c) (a .before .loop-test .taken) _ _ _ (a .at .ensures) _ (half-seen h) _
-          (c .start2 .ensures),
-    )
+loop-again c = (search needs, c .start-either .ensures .1, c .start-either .ensures .0)
 
 returns : tie.Need-returns Inv-loop μ-loop
 returns c =
     let l = c .before in
-    all-seen (given-at (l .before .before .before .before)) _ (l .loop .c) (omega (arith, l .loop .inv .0, c .loop-test .left)) (l .loop .inv .1)
+    all-seen (given-at (l .before .before .before)) _ (l .loop .c) (omega (arith, l .loop .inv .0, c .loop-test .left)) (l .loop .inv .2)
 
 pub least-code-spec : {M : Type 1} → statement M
 least-code-spec =
@@ -121,11 +74,8 @@ least-code-spec =
     μ-loop
     labels-of-drawing-requires
     twins-of-requires
-    new-requires
     loop-holds
-    at-requires
-    start-requires
-    start-requires-2
+    start-either-requires
     add-c
     loop-less
     loop-again

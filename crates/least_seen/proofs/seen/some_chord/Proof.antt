@@ -9,7 +9,7 @@ use borrow.Author.Count.{below-more}
 use borrow.Author.Needs.{needs}
 use Rattle.laws.specs.Decides.{decides-true, decides-false}
 use Rattle.codes.specs.BranchState.{label-at}
-use Rattle.least_seen.specs.Accepting.{device-placed}
+use Rattle.branches.specs.Branches.{device-placed}
 use Rattle.least_seen.proofs.seen.some_chord.Statement.{statement}
 use Rattle.least_seen.proofs.seen.some_chord.Tie as tie
 

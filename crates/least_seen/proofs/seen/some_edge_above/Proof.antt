@@ -6,7 +6,8 @@ use native.Mathlib.Omega.{arith}
 use borrow.Author.Count.{below-more}
 use borrow.Author.Needs.{needs}
 use Rattle.laws.specs.Decides.{decides-true, decides-false}
-use Rattle.least_seen.specs.Accepting.{device-placed, Edge-from}
+use Rattle.branches.specs.Branches.{device-placed}
+use Rattle.least_seen.specs.Accepting.{Edge-from}
 use Rattle.least_seen.proofs.seen.some_edge_above.Statement.{statement}
 use Rattle.least_seen.proofs.seen.some_edge_above.Tie as tie
 

@@ -18,11 +18,11 @@ use Rattle.laws.specs.Rows.{row}
 use Rattle.codes.specs.Code.{rec-in}
 use Rattle.tables.specs.declared.«record».Order.{Order}
 use Rattle.tables.specs.declared.«record».Order.the-variants.{Before, Equal, After}
+use Rattle.branches.specs.Branches.{in-place, device-placed}
+use Rattle.branches.specs.InPlaceLaws.{edged-same, put-back, freed}
 use Rattle.least_seen.specs.Betters.{Better-below}
 use Rattle.least_seen.specs.TestFollowLaws.{follows-end}
 use Rattle.least_seen.specs.Accepting.{
-  in-place,
-  device-placed,
   Chord-told,
   Free-label,
   Counted-label,
@@ -31,11 +31,8 @@ use Rattle.least_seen.specs.Accepting.{
   Test-goes-on,
 }
 use Rattle.least_seen.specs.AcceptedSteps.{
-  edged-same,
   untouched,
   not-taken,
-  put-back,
-  freed,
   counted-free,
   wanted-label-some,
   Tried-way,
@@ -69,7 +66,7 @@ use Rattle.least_test.proofs.better.edge_better.Reads as edge-better
 use Rattle.least_test.proofs.better.edge_better.Kinds as edge-better-kinds
 use Rattle.least_test.proofs.better.+better+edge_better.Lts-edge_better as edge-better-lts
 use Rattle.least_seen.proofs.seen.chord_order.Reads as chord-order-reads
-use Rattle.least_seen.proofs.seen.device_at.Reads as device-at-reads
+use Rattle.branches.proofs.branch.device_at.Reads as device-at-reads
 use Rattle.least_seen.proofs.seen.counted_label.Reads as counted-label-reads
 use Rattle.least_seen.proofs.seen.is_lower.Reads as is-lower-reads
 use Rattle.least_seen.proofs.seen.place_of.Reads as place-of-reads

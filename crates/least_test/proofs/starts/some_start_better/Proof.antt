@@ -5,13 +5,13 @@ use mathlib.Core.Bool.{true, false, true≢false}
 use Prim.Native.Nat.{ℕ, _-_, _≤_}
 use native.Mathlib.Omega.{arith}
 use borrow.Author.Needs.{needs}
-use Rattle.laws.specs.Decides.{decides-true, decides-false}
+use Rattle.laws.specs.Decides.{Decides, decides-true, decides-false}
 use Rattle.laws.specs.Rows.{row}
 use Rattle.codes.specs.Code.{Rec, rec-in, decoded}
 use Rattle.codes.specs.Code.{code-records}
 use Rattle.codes.specs.CodeBytes.{accepted-code}
 use Rattle.tables.specs.Records.{as-rec}
-use Rattle.least_seen.specs.Betters.{Seen-cable, reversed-record, Tried}
+use Rattle.least_seen.specs.Betters.{Seen-cable, reversed-record, Begins-better, Tried}
 use Rattle.least_test.specs.LabelNumbers.{Numbers-labels}
 use Rattle.least_test.specs.LeastStarts.{seen-along, seen-against, own-start, tried-start, tried-next, tried-all}
 use Rattle.least_test.proofs.starts.some_start_better.Statement.{statement}
@@ -73,7 +73,8 @@ start-better-requires c κs =
       l .inv .2,
       λ e.
           let f = c .followed .ensures e in
-          own-start (s .pre .0 .tabled) (from-i a) (a .at2 .ensures ∙ ap (λ (k : ℕ). rec-in (row 5 k (s .args .code .now))) (f .1))
+          own-start (s .args .code .now) (s .pre .0 .tabled .accepted) (from-i a)
+          (a .at2 .ensures ∙ ap (λ (k : ℕ). rec-in (row 5 k (s .args .code .now))) (f .1))
           (s .pre .1 (f .0)),
       s .pre .2,
     )
@@ -85,34 +86,56 @@ returns c =
     decides-true
     (record { u = e .i; w = e .j; k = e .c; has = from-i a .has; better = c .before .start-better .ensures .holds (c .if1 .taken) })
 
+reversed-requires : tie.Need-reversed-requires Inv-loop μ-loop
+reversed-requires c κs = search needs
+
 start-better-requires-2 : tie.Need-start-better-requires-2 Inv-loop μ-loop
 start-better-requires-2 c κs =
-    let a = c .before .before .before in
-    let p = a .before .before .before .before .before .before .pre in
-    (p .0, from-j a, a .before .before .loop .inv .2, λ e. absurd (true≢false e), p .2)
+    let a = c .before .before .before .before in
+    let s = a .before .before .before .before .before .before in (
+      s .pre .0,
+      subst (Seen-cable (decoded (code-records (s .args .code .now)))) (sym (c .reversed .ensures)) (from-j a),
+      a .before .before .loop .inv .2,
+      λ e. absurd (true≢false e),
+      s .pre .2,
+    )
+
+-- what is decided of the cable turned round
+turned :
+    (c : tie.After-start-better2 Inv-loop μ-loop)
+    → let a = c .before .before .before .before .before in
+    let e = as-rec (a .at2 .result) in
+    Decides (c .start-better2 .result) (Begins-better (a .before .before .before .before .before .before .args .code .now) (e .j) (e .i) (e .c))
+turned c =
+    let a = c .before .before .before .before .before in
+    let bs = a .before .before .before .before .before .before .args .code .now in
+    subst (λ (r : Rec). Decides (c .start-better2 .result) (Begins-better bs (r .i) (r .j) (r .c))) (c .before .reversed .ensures)
+    (c .start-better2 .ensures)
 
 returns-2 : tie.Need-returns-2 Inv-loop μ-loop
 returns-2 c =
-    let a = c .before .before .before .before .before in
+    let a = c .before .before .before .before .before .before in
     let e = as-rec (a .at2 .result) in
-    decides-true
-    (record { u = e .j; w = e .i; k = e .c; has = from-j a .has; better = c .before .start-better2 .ensures .holds (c .if2 .taken) })
+    decides-true (record { u = e .j; w = e .i; k = e .c; has = from-j a .has; better = turned (c .before) .holds (c .if2 .taken) })
 
 add-k : tie.Need-add-k Inv-loop μ-loop
-add-k c = search needs
+add-k c =
+    let i = c .before .before .before .before .before .before .before in
+    let s = i .before .before .before .before .before in
+    omega (arith, i .loop-test .taken, s .fits .m)
 
 loop-less : tie.Need-loop-less Inv-loop μ-loop
 loop-less c = search needs
 
 loop-again : tie.Need-loop-again Inv-loop μ-loop
 loop-again c =
-    let a = c .before .before .before .before .before in
+    let a = c .before .before .before .before .before .before in
     let s = a .before .before .before .before .before .before in
     let l = a .before .before .loop in (
       search needs,
       tried-next (s .args .code .now) (l .k) (as-rec (a .at2 .result)) (a .at2 .ensures) (l .inv .1)
-          (c .before .before .before .start-better .ensures .fails (c .before .before .if1 .left))
-          (c .before .start-better2 .ensures .fails (c .if2 .left)),
+          (c .before .before .before .before .start-better .ensures .fails (c .before .before .before .if1 .left))
+          (turned (c .before) .fails (c .if2 .left)),
       l .inv .2,
     )
 
@@ -135,6 +158,7 @@ some-start-better-spec =
     followed-requires
     start-better-requires
     returns
+    reversed-requires
     start-better-requires-2
     returns-2
     add-k

@@ -26,13 +26,15 @@ returns : tie.Need-returns
 returns c =
     let a = c .before in
     let p = a .before .before .pre in
-    decides-false (higher-start (p .0 .tabled) (p .1) (a .labels-number .ensures) (p .2) (omega arith))
+    let bs = a .before .before .args .code .now in
+    decides-false (higher-start bs (p .0 .tabled .accepted) (p .1) (a .labels-number .ensures) (p .2) (omega arith))
 
 returns-2 : tie.Need-returns-2
 returns-2 c =
     let a = c .before .before in
     let p = a .before .before .pre in
-    decides-true (lower-start (p .0 .tabled) (p .1) (a .labels-number .ensures) (p .2) (omega arith))
+    let bs = a .before .before .args .code .now in
+    decides-true (lower-start bs (p .0 .tabled .accepted) (p .1) (a .labels-number .ensures) (p .2) (omega arith))
 
 cast-first-better : tie.Need-cast-first-better
 cast-first-better c = search needs
@@ -48,29 +50,32 @@ same :
 same c =
     let a = c .before .before in
     let p = a .before .before .pre in
-    same-start (p .0 .tabled) (p .1) (a .labels-number .ensures) (p .2) (omega arith)
+    same-start (a .before .before .args .code .now) (p .0 .tabled .accepted) (p .1) (a .labels-number .ensures) (p .2) (omega arith)
 
 first-better-requires : tie.Need-first-better-requires
 first-better-requires c κs =
     let h = c .before .before .before in
     let p = h .before .before .before .before .pre in
-    let low = seen-low (p .0 .tabled) (p .1) in
-    (low .0, low .1, record { counted = p .0; follows = start-follows (p .0 .tabled) (p .1) (same h) }, p .4)
+    let bs = h .before .before .before .before .args .code .now in
+    let low = seen-low bs (p .0 .tabled .accepted) (p .1) in
+    (low .0, low .1, record { counted = p .0; follows = start-follows bs (p .0 .tabled .accepted) (p .1) (same h) (p .0 .tabled .labels) }, p .4)
 
 returns-3 : tie.Need-returns-3
 returns-3 c =
     let h = c .before .before .before .before in
     let p = h .before .before .before .before .pre in
+    let bs = h .before .before .before .before .args .code .now in
     record {
-      holds = λ e. start-tells (p .0 .tabled) (p .1) (same h) (c .first-better .ensures .holds e);
-      fails = λ e m. c .first-better .ensures .fails e (start-asks (p .0 .tabled) (p .1) (same h) m);
+      holds = λ e. start-tells bs (p .0 .tabled .accepted) (p .1) (same h) (c .first-better .ensures .holds e);
+      fails = λ e m. c .first-better .ensures .fails e (start-asks bs (p .0 .tabled .accepted) (p .1) (same h) m);
     }
 
 returns-4 : tie.Need-returns-4
 returns-4 c =
     let h = c .before in
     let p = h .before .before .before .before .pre in
-    decides-false (λ m. p .3 (c .if3 .left) (start-asks (p .0 .tabled) (p .1) (same h) m))
+    let bs = h .before .before .before .before .args .code .now in
+    decides-false (λ m. p .3 (c .if3 .left) (start-asks bs (p .0 .tabled .accepted) (p .1) (same h) m))
 
 pub start-better-spec : {M : Type 1} → statement M
 start-better-spec =

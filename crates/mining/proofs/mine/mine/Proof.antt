@@ -1,11 +1,12 @@
 -- `mine::mine` meets its contract. The invariant: what begins with a kind below `kind` is listed. Assumes nothing.
-use mathlib.Core.Path.{_≡_, refl, sym, ap, _∙_, subst}
+use mathlib.Core.Path.{refl, _∙_}
 use mathlib.Core.Logic.{⊎-elim}
-use Prim.Native.Nat.{ℕ, _+_, _-_, _<_, _≤_}
+use Prim.Native.Nat.{_-_}
 use native.Mathlib.Omega.{arith}
 use borrow.Author.Needs.{needs}
 use Rattle.walks.specs.Kinds.{Occurs}
 use Rattle.walks.specs.EmbeddingLists.{Lists-sized}
+use Rattle.candidates.specs.HeldCodeLaws.{no-records, nothing-held}
 use Rattle.mining.specs.SurveyMined.{Kinds-done}
 use Rattle.mining.specs.SurveyMinedLaws.{
   mine-starts,
@@ -20,7 +21,6 @@ use Rattle.mining.proofs.mine.mine.Statement.{statement}
 use Rattle.mining.proofs.mine.mine.Tie as tie
 use Rattle.mining.proofs.mine.mine.Reads as reads
 use Rattle.mining.proofs.mine.mine.Lts as lts
-use Rattle.readings.proofs.reading.Reading.new.Reads as new-reads
 use Rattle.candidates.proofs.choose.choose.Reads as choose-reads
 use Rattle.counting.proofs.count.count_firsts.Reads as count-firsts-reads
 use Rattle.growing.proofs.grow.walk.Reads as walk-reads
@@ -62,20 +62,18 @@ choose-requires c κs =
     let l = f .before .before .before .before .before in
     mine-chooses (l .before .before .before .before .pre .0) (l .loop .inv .1) (f .count-firsts .ensures)
 
-new-requires : tie.Need-new-requires Inv-loop μ-loop
-new-requires c κs = search needs
-
 cast-walk : tie.Need-cast-walk Inv-loop μ-loop
 cast-walk c = search needs
 
 walk-requires : tie.Need-walk-requires Inv-loop μ-loop
 walk-requires c κs =
-    let n = c .before .before .before .before .before .before in
-    let f = n .before .before .before .before .before in
+    let h = c .before .before .before .before .before .before .before .before in
+    let f = h .before .before .before .before in
     let l = f .before .before .before .before .before in (
-      mine-walks (l .before .before .before .before .pre .0) (l .loop .inv .1) (f .count-firsts .ensures) (n .before .choose .ensures)
-          (n .new .ensures),
-      record { sized = l .loop .inv .2; at = λ e h. absurd (omega (arith, n .new .ensures .no-record)) },
+      mine-walks (l .before .before .before .before .pre .0) (l .loop .inv .1) (f .count-firsts .ensures) (h .choose .ensures)
+          (no-records _),
+      nothing-held (record { long = refl; wide = refl }),
+      record { sized = l .loop .inv .2; at = λ e z. absurd (omega arith) },
     )
 
 enum-known-count : tie.Need-enum-known-count Inv-loop μ-loop
@@ -87,18 +85,18 @@ enum-told c = search needs
 same-length : tie.Need-same-length Inv-loop μ-loop
 same-length c =
     let w = c .before .before .before .before in
-    let n = w .before .before .before .before .before .before .before in
-    let f = n .before .before .before .before .before in
+    let h = w .before .before .before .before .before .before .before .before .before in
+    let f = h .before .before .before .before in
     let l = f .before .before .before .before .before in
     w .walk .ensures .0 .size ∙ l .loop .inv .1 .size
 
 returns : tie.Need-returns Inv-loop μ-loop
 returns c =
     let w = c .before .before .before .before in
-    let n = w .before .before .before .before .before .before .before in
-    let f = n .before .before .before .before .before in
+    let h = w .before .before .before .before .before .before .before .before .before in
+    let f = h .before .before .before .before in
     let l = f .before .before .before .before .before in
-    mine-full (l .before .before .before .before .pre .0) (l .loop .inv .1) (f .count-firsts .ensures) (n .before .choose .ensures) (n .new .ensures)
+    mine-full (l .before .before .before .before .pre .0) (l .loop .inv .1) (f .count-firsts .ensures) (h .choose .ensures) (no-records _)
     (rw (c .enum-told .given .1) at (w .walk .ensures .0))
 
 add-kind : tie.Need-add-kind Inv-loop μ-loop
@@ -113,10 +111,10 @@ loop-again c =
     let l = c .before .before .loop in
     let h = c .before .loop-test .taken in
     ⊎-elim
-    (λ w. rw (w .21, w .22, w .23, w .24, w .25, w .26, w .27) (
+    (λ w. rw (w .22, w .23, w .24, w .25, w .26, w .27, w .28) (
       l .inv .0,
-      mine-next (s .pre .0) (l .inv .1) (w .3 .ensures) (w .7 .ensures) (w .8 .ensures) h (rw (w .19 .given .1) at (w .15 .ensures .0)),
-      w .15 .ensures .1 .sized,
+      mine-next (s .pre .0) (l .inv .1) (w .3 .ensures) (w .7 .ensures) (no-records _) h (rw (w .20 .given .1) at (w .16 .ensures .0)),
+      w .16 .ensures .2 .sized,
     ))
     (λ w. rw (w .1, w .2, w .3, w .4, w .5, w .6, w .7) (l .inv .0, mine-skips (s .pre .0) h (l .inv .0) (w .0 .left) (l .inv .1), l .inv .2))
     (c .if1 .came)
@@ -139,7 +137,6 @@ mine-spec =
     cast-count-firsts
     count-firsts-requires
     choose-requires
-    new-requires
     cast-walk
     walk-requires
     enum-known-count

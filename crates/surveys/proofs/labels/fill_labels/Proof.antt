@@ -1,12 +1,15 @@
--- `tables::fill_labels` meets its contract. The invariant: the tables of the first d drawings are there. Assumes nothing.
+-- `labels::fill_labels` meets its contract. The invariant: the tables of the first d drawings are there. Assumes nothing.
 use mathlib.Core.Path.{_≡_}
 use Prim.Native.Nat.{_≤_, _-_}
 use native.Mathlib.Omega.{arith}
 use lib.ListN.{length}
 use borrow.Author.Needs.{needs}
+use Rattle.laws.specs.Rows.{row}
 use Rattle.graphs.specs.Survey.{drawing-count}
 use Rattle.graphs.specs.AcceptedSurvey.{drawing-part}
 use Rattle.graphs.specs.AcceptedSurvey.{accepted-survey}
+use Rattle.walks.specs.LocalPlaces.{labels-low}
+use Rattle.walks.specs.PreparedLaws.{labelled-pattern}
 use Rattle.walks.specs.DrawingTables.{Tables-before}
 use Rattle.walks.specs.DrawingTableLaws.{tables-none, tables-next}
 use Rattle.surveys.proofs.labels.fill_labels.Statement.{statement}
@@ -45,12 +48,16 @@ labels-of-drawing-requires c κs =
     let l = c .before .before .loop in
     rw (drawing-part (s .args .survey .now) (l .d)) (accepted-survey (s .args .survey .now) (s .pre .0) .drawing (l .d) (omega arith))
 
-put-table-requires : tie.Need-put-table-requires Inv-loop μ-loop
-put-table-requires c κs =
+put-drawing-requires : tie.Need-put-drawing-requires Inv-loop μ-loop
+put-drawing-requires c κs =
     let s = c .before .before .before .before .before .before .before .before in
     let l = c .before .before .before .before .before .loop in
-    let ten : length (c .before .before .labels-of-drawing .result) ≡ 100 = search needs in
-    (omega (arith, accepted-survey (s .args .survey .now) (s .pre .0) .most), ten, l .inv .2 .size)
+    let t = c .before .before .labels-of-drawing in
+    let ten : length (t .result) ≡ 100 = search needs in
+    let a = accepted-survey (s .args .survey .now) (s .pre .0) in
+    let labels = rw (drawing-part (s .args .survey .now) (l .d)) at (t .ensures) in
+    let p = labelled-pattern (row 72 (l .d) (s .args .survey .now)) (t .result) (a .drawing (l .d) (omega arith)) labels in
+    (omega (arith, a .most), ten, l .inv .2 .size, labels-low _ p labels)
 
 add-d : tie.Need-add-d Inv-loop μ-loop
 add-d c = search needs
@@ -62,14 +69,11 @@ loop-again : tie.Need-loop-again Inv-loop μ-loop
 loop-again c =
     let s = c .before .before .before .before .before .before .before .before .before in
     let l = c .before .before .before .before .before .before .loop in
-    let t = c .before .before .before .labels-of-drawing in
-    let ten : length (t .result) ≡ 100 = search needs in (
+    let t = c .before .before .before .labels-of-drawing in (
       search needs,
       search needs,
-      rw (c .put-table .ensures)
-          (tables-next (s .args .survey .now) (l .d) (l .labels) (t .result)
-          (omega (arith, accepted-survey (s .args .survey .now) (s .pre .0) .most)) ten
-          (rw (drawing-part (s .args .survey .now) (l .d)) at (t .ensures)) (l .inv .2)),
+      tables-next (s .args .survey .now) (l .d) (omega (arith, accepted-survey (s .args .survey .now) (s .pre .0) .most))
+          (rw (drawing-part (s .args .survey .now) (l .d)) at (t .ensures)) (c .put-drawing .ensures) (l .inv .2),
     )
 
 returns : tie.Need-returns Inv-loop μ-loop
@@ -93,7 +97,7 @@ fill-labels-spec =
     part-labels-of-drawing-start
     part-labels-of-drawing-end
     labels-of-drawing-requires
-    put-table-requires
+    put-drawing-requires
     add-d
     loop-less
     loop-again

@@ -31,7 +31,7 @@ use Rattle.walks.specs.Choices.{Of-sets, Can-choose, Chose}
 use Rattle.growing.specs.GrowthOutcomes.{Fit, Can-walk-candidates, Candidates-walked}
 use Rattle.walks.specs.Kinds.{Occurs}
 use Rattle.walks.specs.KindLaws.{no-first}
-use Rattle.mining.specs.SurveyMined.{Can-mine, Mined, Kinds-done}
+use Rattle.mining.specs.SurveyMined.{Can-mine, Mined, Kinds-done, After-kind}
 
 -- WHAT IS COUNTED after no record
 fit-first :
@@ -155,11 +155,11 @@ module _ {survey labels rank alphabet : List ℕ} {g : Settings} {cells seen lis
             → Candidates-walked survey alphabet g k [] cells₄ seen₄ list₃ 0 top list₄ out₁ written r out₄
         went {r} = subst (λ (δ : List Rec). Candidates-walked survey alphabet g k δ cells₄ seen₄ list₃ 0 top list₄ out₁ written r out₄) n
 
-        pub mine-full : Candidates-walked survey alphabet g k γ cells₄ seen₄ list₃ 0 top list₄ out₁ written Full out₄
+        mine-full : Candidates-walked survey alphabet g k γ cells₄ seen₄ list₃ 0 top list₄ out₁ written Full out₄
             → Mined survey g out Full out₄
         mine-full v = went v .told (w .codes) out ahead (w .lists)
 
-        pub mine-next : {m : ℕ} → k < 256 → Candidates-walked survey alphabet g k γ cells₄ seen₄ list₃ 0 top list₄ out₁ written
+        mine-next : {m : ℕ} → k < 256 → Candidates-walked survey alphabet g k γ cells₄ seen₄ list₃ 0 top list₄ out₁ written
             (To m) out₄
             → Kinds-done survey g out (k + 1) cells₄ seen₄ list₄ out₄ m
         mine-next {m} low v =
@@ -182,6 +182,17 @@ module _ {survey labels rank alphabet : List ℕ} {g : Settings} {cells seen lis
                   (c .counting) chosen) (w .listed) (x .which);
               lists = x .lists;
             }
+
+        -- either way
+        pub kind-after : (r : Growth) → k < 256 → Candidates-walked survey alphabet g k γ cells₄ seen₄ list₃ 0 top list₄ out₁ written r out₄
+            → After-kind survey g out k cells₄ seen₄ list₄ out₄ r
+        kind-after (To m) low v = mine-next low v
+        kind-after Full low v = mine-full v
+
+  -- the arrays may be lent again
+  pub can-still : {out : List ℕ} {k : ℕ} {cells₁ seen₁ list₁ out₁ : List ℕ} {written : ℕ}
+      → Kinds-done survey g out k cells₁ seen₁ list₁ out₁ written → Can-mine survey labels rank alphabet g cells₁ seen₁ list₁
+  can-still w = record { set-up = a .set-up; some = a .some; blank = w .blank; list-size = w .list-size }
 
   -- THE END: all kinds
   pub mine-ends : {out : List ℕ} {k : ℕ} {cells₁ seen₁ list₁ out₁ : List ℕ} {written : ℕ} → 256 ≤ k

@@ -13,13 +13,9 @@ abbrev pub in-place : (numbers : List ℕ) (used : List Bool) (path : List ℕ) 
 in-place numbers used path count given low =
     record { numbers = numbers; used = used; path = path; count = count; given = given; low = low }
 
--- the branches that it leads to, with the program's sums: a backward record to number j, a forward one from place q to device w
+-- the branch that a backward record to number j leads to, with the program's sum
 abbrev pub chorded : State → (j : ℕ) → State
 chorded b j = in-place (b .numbers) (b .used) (b .path) (b .count) (b .given) (j + 1)
-
-abbrev pub edged : State → (q w : ℕ) → State
-edged b q w =
-    in-place (set (b .numbers) (b .given) w) (set (b .used) w true) (set (b .path) (q + 1) (b .given)) (q + 2) (b .given + 1) 0
 
 -- the device at place q of a path
 abbrev pub device-placed : (numbers path : List ℕ) → (q : ℕ) → ℕ

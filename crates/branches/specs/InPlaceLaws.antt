@@ -13,7 +13,6 @@ use Rattle.branches.specs.declared.branch.Displaced.{Displaced}
 use Rattle.branches.specs.Branches.{
   in-place,
   chorded,
-  edged,
   Placed,
   Places,
   Same-arrays,
@@ -33,51 +32,30 @@ bounds-places b k =
       lands = λ q h. k .lands (getD (b .path) q 0) (k .on-path q h);
     }
 
--- THE BRANCHES that it leads to
+-- THE BRANCH that a backward record leads to
 pub chorded-is : (b : State) (q j : ℕ) → getD (b .path) q 0 ≡ j → with-chord b q ≡ chorded b j
 chorded-is b q j e =
     let z : suc (getD (b .path) q 0) ≡ j + 1 = omega arith in
     ap (λ (l : ℕ). in-place (b .numbers) (b .used) (b .path) (b .count) (b .given) l) z
 
-pub edged-is : (b : State) (q w : ℕ) → with-edge b q w ≡ edged b q w
-edged-is b q w =
-    let p : suc q ≡ q + 1 = omega arith in
-    let c : suc (suc q) ≡ q + 2 = omega arith in
-    let g : suc (b .given) ≡ b .given + 1 = omega arith in
-    λ x. record {
-      numbers = set (b .numbers) (b .given) w;
-      used = set (b .used) w true;
-      path = set (b .path) (p x) (b .given);
-      count = c x;
-      given = g x;
-      low = 0;
-    }
-
--- from arrays that are the same the same is followed
-pub edged-same :
-    {numbers₀ numbers path₀ path : List ℕ} {used₀ used : List Bool} (count given low q w : ℕ) → numbers ≡ numbers₀ → used ≡ used₀ → path ≡ path₀
-    → edged (in-place numbers₀ used₀ path₀ count given low) q w ≡ edged (in-place numbers used path count given low) q w
-edged-same count given low q w a b c =
-    λ x. record {
-      numbers = set (sym a x) given w;
-      used = set (sym b x) w true;
-      path = set (sym c x) (q + 1) given;
-      count = q + 2;
-      given = given + 1;
-      low = 0;
-    }
-
 -- NUMBERS GIVEN AND TAKEN BACK
 pub all-same : {numbers path : List ℕ} {used : List Bool} → Same-arrays numbers numbers used used path path
 all-same = record { numbers-same = refl; used-same = refl; path-same = refl }
 
-pub put-back : (xs ys zs : List ℕ) (i v : ℕ) → ys ≡ set xs i v → xs ≡ zs → set ys i (getD xs i 0) ≡ zs
+put-back : (xs ys zs : List ℕ) (i v : ℕ) → ys ≡ set xs i v → xs ≡ zs → set ys i (getD xs i 0) ≡ zs
 put-back xs ys zs i v e same = ap (λ (l : List ℕ). set l i (getD xs i 0)) e ∙ set-set xs i v (getD xs i 0) ∙ set-getD xs i 0 ∙ same
 
-pub freed : (xs ys zs : List Bool) (w : ℕ) → ys ≡ set xs w true → xs ≡ zs → getD zs w true ≡ false → set ys w false ≡ zs
+freed : (xs ys zs : List Bool) (w : ℕ) → ys ≡ set xs w true → xs ≡ zs → getD zs w true ≡ false → set ys w false ≡ zs
 freed xs ys zs w e same free =
     ap (λ (l : List Bool). set l w false) e ∙ set-set xs w true false ∙ ap (λ (l : List Bool). set l w false) same
     ∙ ap (set zs w) (sym free) ∙ set-getD zs w true
+
+-- after a branch of the program that left the arrays at these
+pub joined :
+    {numbers₀ numbers numbers′ path₀ path path′ : List ℕ} {used₀ used used′ : List Bool} → Same-arrays numbers₀ numbers used₀ used path₀ path
+    → numbers′ ≡ numbers → used′ ≡ used → path′ ≡ path → Same-arrays numbers₀ numbers′ used₀ used′ path₀ path′
+joined same a b c =
+    record { numbers-same = a ∙ same .numbers-same; used-same = b ∙ same .used-same; path-same = c ∙ same .path-same }
 
 module _ {numbers₀ numbers path₀ path : List ℕ} {used₀ used : List Bool} (same : Same-arrays numbers₀ numbers used₀ used path₀ path) where
   pub same-place : (count given low : ℕ) → in-place numbers used path count given low ≡ in-place numbers₀ used₀ path₀ count given low
@@ -93,9 +71,13 @@ module _ {numbers₀ numbers path₀ path : List ℕ} {used₀ used : List Bool}
     pub given-place :
         (count low : ℕ) → in-place numbers′ used′ path′ (q + 2) (given + 1) 0 ≡ with-edge (in-place numbers₀ used₀ path₀ count given low) q w
     given-place count low =
+        let behind : q + 1 ≡ suc q = omega arith in
+        let places : q + 2 ≡ suc (suc q) = omega arith in
+        let numbered : given + 1 ≡ suc given = omega arith in
         (λ x. in-place (g .numbers-set x) (g .used-set x) (g .path-set x) (q + 2) (given + 1) 0)
-        ∙ sym (edged-same count given low q w (same .numbers-same) (same .used-same) (same .path-same))
-        ∙ sym (edged-is (in-place numbers₀ used₀ path₀ count given low) q w)
+        ∙ (λ x.
+        in-place (set (same .numbers-same x) given w) (set (same .used-same x) w true) (set (same .path-same x) (behind x) given) (places x)
+        (numbered x) 0)
 
     -- and taken back from it, where what came in between left all as it was
     pub taken-place :

@@ -1,15 +1,15 @@
--- What later rows leave of a reading: no device goes, the rightmost path takes up none that it has left, and while no device
+-- What later rows leave of a reading: no device goes or gets another kind, the rightmost path takes up none that it has left, and while no device
 -- comes, backward records rise. Rests on Step, Reading and ReadRows. Assumes nothing.
-use mathlib.Core.Path.{_≡_, refl, sym, subst}
+use mathlib.Core.Path.{_≡_, refl, sym, subst, _∙_}
 use mathlib.Core.Bool.{Bool, true, false, cond}
 use mathlib.Core.List.{List, [], _∷_}
 use mathlib.Core.Logic.{_⊎_, inl, inr}
 use Prim.Native.Nat.{ℕ, _≤_, _<_}
 use native.Mathlib.Omega.{arith}
 use lib.Dec.{eqb}
-use lib.ListN.{length}
+use lib.ListN.{length, getD}
 use borrow.Author.Tests.{eqb-true}
-use Rattle.laws.specs.Lists.{Mem, snoc-length}
+use Rattle.laws.specs.Lists.{Mem, snoc-length, snoc-old}
 use Rattle.codes.specs.Code.{Rec, Reading, cut-to, forwarded, stepped, rows-refusal, read-rows}
 use Rattle.codes.specs.Step.{Step, steps-back, steps-forward, after, Falling, cut-within}
 use Rattle.codes.specs.Reading.{Invariant, invariant-step}
@@ -17,16 +17,18 @@ use Rattle.codes.specs.ReadRows.{step-from-test, stepped-is, rows-cons}
 
 pub record Later (x y : Reading) : Type 0 where
   pub more : length (x .kinds) ≤ length (y .kinds)
+  pub kinds : (a : ℕ) → a < length (x .kinds) → getD (y .kinds) a 256 ≡ getD (x .kinds) a 256
   pub on-path : (a : ℕ) → Mem a (y .path) → a < length (x .kinds) → Mem a (x .path)
   pub rising : length (y .kinds) ≡ length (x .kinds) → (x .back ≡ 10 → ⊥) → (y .back ≡ 10 → ⊥) × (x .back ≤ y .back)
 
 later-same : (x : Reading) → Later x x
-later-same x = record { more = omega arith; on-path = λ a m l. m; rising = λ e n. (n, omega arith) }
+later-same x = record { more = omega arith; kinds = λ a l. refl; on-path = λ a m l. m; rising = λ e n. (n, omega arith) }
 
 later-then : {x y z : Reading} → Later x y → Later y z → Later x z
 later-then {x} {y} {z} p q =
     record {
       more = omega (arith, p .more, q .more);
+      kinds = λ a l. q .kinds a (omega (arith, p .more)) ∙ p .kinds a l;
       on-path = λ a m l. p .on-path a (q .on-path a m (omega (arith, p .more))) l;
       rising = λ e n.
           let s = p .rising (omega (arith, p .more, q .more)) n in
@@ -36,7 +38,12 @@ later-then {x} {y} {z} p q =
 
 pub later-step : (x : Reading) → Invariant x → (s : Rec) (t : Step x s) → Later x (after t)
 later-step x v s (steps-back o y z) =
-    record { more = omega arith; on-path = λ a m l. m; rising = λ e n. (omega (arith, v .ten, v .below (s .j) (o .on-path)), go n (o .rising)) }
+    record {
+      more = omega arith;
+      kinds = λ a l. refl;
+      on-path = λ a m l. m;
+      rising = λ e n. (omega (arith, v .ten, v .below (s .j) (o .on-path)), go n (o .rising));
+    }
   where
     go : (x .back ≡ 10 → ⊥) → (x .back ≡ 10) ⊎ (x .back < s .j) → x .back ≤ s .j
     go n (inl h) = absurd (n h)
@@ -44,6 +51,7 @@ later-step x v s (steps-back o y z) =
 later-step x v s (steps-forward o j k y) =
     record {
       more = omega (arith, snoc-length (x .kinds) (s .kj));
+      kinds = λ a l. snoc-old 256 (x .kinds) (s .kj) a l;
       on-path = path;
       rising = λ e n. absurd (omega (arith, snoc-length (x .kinds) (s .kj)));
     }

@@ -1,9 +1,9 @@
 -- Walking the next cables of a code: the record of each candidate, that the code may grow by it, and what is listed after
 -- each. Rests on Growths and Walking. Assumes nothing.
-use mathlib.Core.Path.{_≡_, refl, sym, ap, ap₂, _∙_, subst}
+use mathlib.Core.Path.{_≡_, refl, sym, ap, _∙_, subst}
 use mathlib.Core.Bool.{Bool, true, false, cond}
 use mathlib.Core.List.{List, [], _∷_, _++_, map, append-nil, append-assoc}
-use Prim.Native.Nat.{ℕ, suc, _+_, _-_, _/_, _%_, _^_, _≤_, _<_}
+use Prim.Native.Nat.{ℕ, zero, suc, _+_, _-_, _/_, _%_, _^_, _≤_, _<_}
 use native.Mathlib.Nat.{mod-lt}
 use native.Mathlib.Omega.{arith}
 use lib.Dec.{ltb}
@@ -32,10 +32,9 @@ use Rattle.walks.specs.LabelMarks.{drawings-of}
 use Rattle.walks.specs.PreparedLaws.{drawings-counted, prepared-few, prepared-patterns}
 use Rattle.laws.specs.Parts.{part}
 use Rattle.laws.specs.PartLaws.{part-none, part-snoc, part-split, part-has}
-use Rattle.candidates.specs.HeldCode.{basis, Can-read, Kinds-held, Code-held, Code-kept, Can-append}
-use Rattle.candidates.specs.HeldCodeLaws.{records-kept, kinds-kept, held-kept}
-use Rattle.walks.specs.Hopes.{Can-look, Hopeless-if}
-use Rattle.walks.specs.HopeLaws.{grown-well}
+use Rattle.candidates.specs.HeldCode.{basis, Can-read, Code-held, Code-kept}
+use Rattle.candidates.specs.HeldCodeLaws.{records-kept, held-kept}
+use Rattle.looking.specs.Looking.{May-come, Hopeless, Can-look-on, Looked-on}
 use Rattle.codes.specs.OwnNumbering.{Well-grown}
 use Rattle.growing.specs.PatternGrowth.{lists-same}
 use Rattle.growing.specs.GrowthOutcomes.{
@@ -72,10 +71,10 @@ record-byte x q l h = go (ltb q 8)
 
 -- WHAT THE CANDIDATES REST ON, after some records or none
 basis-extending :
-    {ds : List Drawing} {rank alphabet : List ℕ} {n : ℕ} → All-patterns ds → Ranks ds rank alphabet n → (k : ℕ) (γ : List Rec) → length γ ≤ 7
-    → Extending ds rank alphabet n γ (basis k γ) (Fit k γ)
-basis-extending patterns o k [] h = first-extending patterns o k
-basis-extending patterns o k (r ∷ rs) h = rows-extending patterns o r rs h
+    {ds : List Drawing} {rank alphabet : List ℕ} {n : ℕ} → All-patterns ds → Ranks ds rank alphabet n → (k : ℕ) (floors : List ℕ) (γ : List Rec)
+    → length γ ≤ 7 → Extending ds rank alphabet n γ (basis k γ) (Fit k floors γ)
+basis-extending patterns o k floors [] h = first-extending patterns o k
+basis-extending patterns o k floors (r ∷ rs) h = rows-extending patterns o r rs h floors
 
 module _ {survey labels rank alphabet : List ℕ} {g : Settings} {γ : List Rec} {kind : ℕ} {cells seen list : List ℕ} {from top : ℕ} {out : List ℕ}
     {count : ℕ} (a : Can-walk-candidates survey labels rank alphabet g γ kind cells seen list from top out count) where
@@ -95,9 +94,9 @@ module _ {survey labels rank alphabet : List ℕ} {g : Settings} {γ : List Rec}
   within : top ≤ length list
   within = omega (arith, a .at-hand .room, a .at-hand .list-size, a .more, a .set-up .small)
 
-  extending : Extending (drawings-of survey) rank alphabet (g .labels) γ (basis kind γ) (Fit kind γ)
+  extending : Extending (drawings-of survey) rank alphabet (g .labels) γ (basis kind γ) (Fit kind (a .floors) γ)
   extending =
-      basis-extending (prepared-patterns (a .set-up .prepared)) (a .set-up .prepared .ranks) kind γ
+      basis-extending (prepared-patterns (a .set-up .prepared)) (a .set-up .prepared .ranks) kind (a .floors) γ
       (omega (arith, a .more, a .set-up .small))
 
   rising : Rises (rec-before-by kinds-before) (candidates-in kind γ alphabet (g .labels) (part from top list))
@@ -138,7 +137,7 @@ module _ {survey labels rank alphabet : List ℕ} {g : Settings} {γ : List Rec}
     some-label : 0 < g .labels
     some-label = omega (arith, candidate .below)
 
-    pub walk-reads : Can-read γ kind rank alphabet (g .labels) (q / (2 ^ 40))
+    walk-reads : Can-read γ kind rank alphabet (g .labels) (q / (2 ^ 40))
     walk-reads =
         record {
           accepted = a .accepted;
@@ -161,35 +160,8 @@ module _ {survey labels rank alphabet : List ℕ} {g : Settings} {γ : List Rec}
         (omega (arith, a .more, a .set-up .small)) place-at
         candidate
 
-    -- in place: the array's code is the one under work
-    module _ (code : List ℕ) (m : ℕ) (same : recs-in m code ≡ γ) (e : Rec)
-        (is : e ≡ record-at (basis kind γ) alphabet (g .labels) (q / (2 ^ 40))) where
-      pub grown-is : snoc (recs-in m code) e ≡ snoc γ (record-at (basis kind γ) alphabet (g .labels) (q / (2 ^ 40)))
-      grown-is = ap₂ {C = List Rec} (λ rs r. snoc rs r) same is
-
-      room-left : m < 20
-      room-left = omega (arith, ap length same, recs-in-length m code, a .more, a .set-up .small)
-
-      accepted-next : rows-refusal fresh (snoc (recs-in m code) e) ≡ 0
-      accepted-next = ap (rows-refusal fresh) grown-is ∙ fits-accepted
-
-      pub walk-looks : Can-look code m e
-      walk-looks = record { room = room-left; accepted = accepted-next; drawn = ap (λ (rs : List Rec). is-pattern (decoded rs)) grown-is ∙ drawn }
-
-      pub walk-appends : {kinds : List ℕ} {n : ℕ} → Code-held code kinds m n → Can-append code kinds m n e
-      walk-appends h = record { room = room-left; accepted = accepted-next; held = h }
-
-      -- the look ahead: yes, and the code grown is not the least
-      pub walk-hopeless : {b : Bool} → b ≡ true → Hopeless-if code m e b
-          → Least (decoded (snoc γ (record-at (basis kind γ) alphabet (g .labels) (q / (2 ^ 40)))))
-          (snoc γ (record-at (basis kind γ) alphabet (g .labels) (q / (2 ^ 40)))) → ⊥
-      walk-hopeless told look l = look .not-least told (subst (λ (rs : List Rec). Least (decoded rs) rs) (sym grown-is) l)
-
-      -- no, and it overlooks none, so that the code grows well
-      pub walk-well : Hopeless-if code m e false → Well-grown (snoc γ (record-at (basis kind γ) alphabet (g .labels) (q / (2 ^ 40))))
-      walk-well look =
-          subst Well-grown grown-is
-          (grown-well code m e (subst (λ (rs : List Rec). Greedy kinds-before (decoded rs) [] rs) (sym same) (a .greedy)) (look .hopeful refl))
+    pub walk-comes : May-come γ kind rank alphabet (g .labels) (q / (2 ^ 40))
+    walk-comes = record { can-read = walk-reads; accepted = fits-accepted; drawn = drawn }
 
     module _ {δ : List Rec} (t : δ ≡ snoc γ (record-at (basis kind γ) alphabet (g .labels) (q / (2 ^ 40)))) where
       held-candidate : Candidate-held (drawings-of survey) (g .threshold) δ (q % (2 ^ 40))
@@ -202,7 +174,7 @@ module _ {survey labels rank alphabet : List ℕ} {g : Settings} {γ : List Rec}
             cell-is = cell-is ∙ ap cell-number (candidate .containing-is);
           })
 
-      pub walk-grows-on :
+      walk-grows-on :
           {cells₁ seen₁ list₁ out₁ : List ℕ} {written : ℕ}
           → Well-grown (snoc γ (record-at (basis kind γ) alphabet (g .labels) (q / (2 ^ 40))))
           → On-the-way survey alphabet g kind γ list from top out count k cells₁ seen₁ list₁ out₁ written
@@ -272,7 +244,7 @@ module _ {survey labels rank alphabet : List ℕ} {g : Settings} {γ : List Rec}
           (b .earlier next (rw split (mem-back (up-to k) own))) later
 
     -- PASSED OVER, where its code would not be the least
-    pub walk-passed :
+    walk-passed :
         {cells₁ seen₁ list₁ out₁ : List ℕ} {written : ℕ}
         → (Least (decoded (snoc γ (record-at (basis kind γ) alphabet (g .labels) (q / (2 ^ 40)))))
         (snoc γ (record-at (basis kind γ) alphabet (g .labels) (q / (2 ^ 40)))) → ⊥)
@@ -327,7 +299,7 @@ module _ {survey labels rank alphabet : List ℕ} {g : Settings} {γ : List Rec}
           (subst (Ahead kinds-before kinds-order ds (g .threshold) (g .limit) (cs ++ m .more)) (sym t)
           (ahead cs b (m .more) (m .which))) (m .lists)
 
-      pub walk-full : Pattern-grown survey g δ cells₂ seen₂ list₁ top list₂ out₁ written Full out₂
+      walk-full : Pattern-grown survey g δ cells₂ seen₂ list₁ top list₂ out₁ written Full out₂
           → Candidates-walked survey alphabet g kind γ cells₂ seen₂ list from top list₂ out count Full out₂
       walk-full u =
           record {
@@ -338,7 +310,7 @@ module _ {survey labels rank alphabet : List ℕ} {g : Settings} {γ : List Rec}
             told = λ cs old b l. outcome u cs old b (w .told cs old b l);
           }
 
-      pub walk-next : {m : ℕ} → Pattern-grown survey g δ cells₂ seen₂ list₁ top list₂ out₁ written (To m) out₂
+      walk-next : {m : ℕ} → Pattern-grown survey g δ cells₂ seen₂ list₁ top list₂ out₁ written (To m) out₂
           → On-the-way survey alphabet g kind γ list from top out count (k + 1) cells₂ seen₂ list₂ out₂ m
       walk-next {m} u =
           record {
@@ -393,7 +365,7 @@ module _ {survey labels rank alphabet : List ℕ} {g : Settings} {γ : List Rec}
             };
       }
 
-  pub walk-ends : {cells₁ seen₁ list₁ out₁ : List ℕ} {k written : ℕ} → top ≤ k
+  walk-ends : {cells₁ seen₁ list₁ out₁ : List ℕ} {k written : ℕ} → top ≤ k
       → On-the-way survey alphabet g kind γ list from top out count k cells₁ seen₁ list₁ out₁ written
       → Candidates-walked survey alphabet g kind γ cells₁ seen₁ list from top list₁ out count (To written) out₁
   walk-ends {out₁ = out₁} {k = k} {written = written} e w =
@@ -409,17 +381,89 @@ module _ {survey labels rank alphabet : List ℕ} {g : Settings} {γ : List Rec}
       }
 
 -- IN PLACE: what the walk of the earlier candidates left in front is the code
-module _ {survey labels rank alphabet : List ℕ} {g : Settings} {code kinds : List ℕ} {m n : ℕ} (h : Code-held code kinds m n) {code₁ kinds₁ : List ℕ}
-    (s : Code-kept m n code kinds code₁ kinds₁) {kind : ℕ} {cells seen list : List ℕ} {from top : ℕ} {out : List ℕ} {count : ℕ}
-    (a : Can-walk-candidates survey labels rank alphabet g (recs-in m code) kind cells seen list from top out count) where
-  few : m ≤ 20
+module _ {survey labels rank alphabet : List ℕ} {g : Settings} {code kinds : List ℕ} {m n : ℕ} (h : Code-held code kinds m n) {kind : ℕ}
+    {cells seen list : List ℕ} {from top : ℕ} {out : List ℕ} {count : ℕ}
+    (a : Can-walk-candidates survey labels rank alphabet g (recs-in m code) kind cells seen list from top out count)
+    {code₁ kinds₁ : List ℕ} (s : Code-kept m n code kinds code₁ kinds₁) {k : ℕ} {cells₁ seen₁ list₁ out₁ : List ℕ} {written : ℕ}
+    (w : On-the-way survey alphabet g kind (recs-in m code) list from top out count k cells₁ seen₁ list₁ out₁ written) where
+  few : m < 20
   few = omega (arith, recs-in-length m code, a .more, a .set-up .small)
 
-  pub walk-same : recs-in m code₁ ≡ recs-in m code
-  walk-same = records-kept few (h .sized) s
+  same : recs-in m code₁ ≡ recs-in m code
+  same = records-kept (omega (arith, few)) (h .sized) s
 
-  pub walk-kinds : Kinds-held (recs-in m code) kinds₁ n
-  walk-kinds = kinds-kept few (h .sized) s (h .met)
+  -- the candidates left
+  pub walk-looks : Can-look-on code₁ kinds₁ m n kind alphabet (g .labels) list₁ k top
+  walk-looks =
+      record {
+        work =
+            record {
+              room = few;
+              held = held-kept (omega (arith, few)) (h .sized) s (h .met);
+              greedy = subst (λ (γ : List Rec). Greedy kinds-before (decoded γ) [] γ) (sym same) (a .greedy);
+            };
+        list-size = w .kept .size;
+        low = w .high;
+        high = omega (arith, a .at-hand .room, a .more, a .set-up .small);
+        rank = rank;
+        next = λ i low high.
+            subst (λ (γ : List Rec). May-come γ kind rank alphabet (g .labels) (getD list₁ i 0 / (2 ^ 40))) (sym same)
+            (walk-comes a i (omega (arith, w .low)) high (getD list₁ i 0) (w .kept .below i high));
+      }
 
-  pub walk-held : Code-held code₁ kinds₁ m n
-  walk-held = held-kept few (h .sized) s (h .met)
+  -- ONE IS LOOKED FOR
+  module _ {code₂ kinds₂ : List ℕ} {at cell wider : ℕ}
+      (l : Looked-on code₁ kinds₁ m n kind alphabet (g .labels) list₁ k top code₂ kinds₂ at cell wider) where
+    -- those before it are passed over
+    passes : (d i : ℕ) → i + d ≡ at → k ≤ i
+        → On-the-way survey alphabet g kind (recs-in m code) list from top out count i cells₁ seen₁ list₁ out₁ written
+        → On-the-way survey alphabet g kind (recs-in m code) list from top out count at cells₁ seen₁ list₁ out₁ written
+    passes zero i e low v =
+        let z : i ≡ at = omega arith in
+        subst (λ (j : ℕ). On-the-way survey alphabet g kind (recs-in m code) list from top out count j cells₁ seen₁ list₁ out₁ written) z v
+    passes (suc d) i e low v =
+        let high : i < top = omega (arith, l .high) in
+        passes d (i + 1) (omega arith) (omega arith)
+        (walk-passed a i (v .low) high (getD list₁ i 0) (w .kept .below i high)
+        (subst (λ (γ : List Rec). Hopeless (snoc γ (record-at (basis kind γ) alphabet (g .labels) (getD list₁ i 0 / (2 ^ 40))))) same
+        (l .passed i low (omega arith))) v)
+
+    walk-at : On-the-way survey alphabet g kind (recs-in m code) list from top out count at cells₁ seen₁ list₁ out₁ written
+    walk-at = passes (at - k) k (omega (arith, l .low)) (omega arith) w
+
+    -- none is left
+    pub walk-ends-all : at ≡ top
+        → Candidates-walked survey alphabet g kind (recs-in m code) cells₁ seen₁ list from top list₁ out count (To written) out₁
+        × Code-kept m n code kinds code₂ kinds₂
+    walk-ends-all e = (
+      walk-ends a (omega arith) walk-at,
+      subst (λ (ks : List ℕ). Code-kept m n code kinds code₂ ks) (sym (l .none e .1))
+          (subst (λ (c : List ℕ). Code-kept m n code kinds c kinds₁) (sym (l .none e .0)) s),
+    )
+
+    -- ONE IS FOUND
+    module _ (b : at < top) where
+      pub walk-turned : recs-in (m + 1) code₂
+          ≡ snoc (recs-in m code) (record-at (basis kind (recs-in m code)) alphabet (g .labels) (getD list₁ at 0 / (2 ^ 40)))
+      walk-turned =
+          l .some b .appended .records
+          ∙ ap (λ (γ : List Rec). snoc γ (record-at (basis kind γ) alphabet (g .labels) (getD list₁ at 0 / (2 ^ 40)))) same
+
+      pub walk-grows : Can-grow-pattern survey labels rank alphabet g (recs-in (m + 1) code₂) cell cells₁ seen₁ list₁ top out₁ written
+      walk-grows =
+          subst (λ (c : ℕ). Can-grow-pattern survey labels rank alphabet g (recs-in (m + 1) code₂) c cells₁ seen₁ list₁ top out₁ written)
+          (sym (l .cell-is b))
+          (walk-grows-on a at (walk-at .low) b (getD list₁ at 0) (w .kept .below at b) walk-turned
+          (subst (λ (γ : List Rec). Well-grown (snoc γ (record-at (basis kind γ) alphabet (g .labels) (getD list₁ at 0 / (2 ^ 40))))) same
+          (l .some b .well)) walk-at)
+
+      -- after it
+      module _ {cells₃ seen₃ list₃ out₃ : List ℕ} where
+        pub walk-fills : Pattern-grown survey g (recs-in (m + 1) code₂) cells₃ seen₃ list₁ top list₃ out₁ written Full out₃
+            → Candidates-walked survey alphabet g kind (recs-in m code) cells₃ seen₃ list from top list₃ out count Full out₃
+        walk-fills = walk-full a at (walk-at .low) b (getD list₁ at 0) (w .kept .below at b) walk-turned walk-at
+
+        pub walk-goes-on : {more : ℕ}
+            → Pattern-grown survey g (recs-in (m + 1) code₂) cells₃ seen₃ list₁ top list₃ out₁ written (To more) out₃
+            → On-the-way survey alphabet g kind (recs-in m code) list from top out count (at + 1) cells₃ seen₃ list₃ out₃ more
+        walk-goes-on = walk-next a at (walk-at .low) b (getD list₁ at 0) (w .kept .below at b) walk-turned walk-at

@@ -1,6 +1,6 @@
 -- Growing a pattern and walking its next cables: what both ask and what they leave. Assumes nothing: these are definitions.
 use mathlib.Core.Path.{_≡_}
-use mathlib.Core.Bool.{Bool, true}
+use mathlib.Core.Bool.{Bool, true, false}
 use mathlib.Core.List.{List, [], _∷_, _++_, map}
 use Prim.Native.Nat.{ℕ, suc, _+_, _*_, _/_, _^_, _≤_, _<_}
 use lib.ListN.{length, drop}
@@ -15,7 +15,8 @@ use Rattle.growth.specs.Catalogues.{entry-for}
 use Rattle.growth.specs.Growth.{Listed-by}
 use Rattle.growth.specs.Frequent.{Frequent}
 use Rattle.growth.specs.Places.{place-of, cell-number}
-use Rattle.growth.specs.CountingExtensions.{Counting, Grown, First-of}
+use Rattle.growth.specs.CountingExtensions.{Counting, First-of}
+use Rattle.growth.specs.Floors.{Grown-above}
 use Rattle.growth.specs.ListedBy.{Chosen-cells, place-in, records-at}
 use Rattle.growth.specs.Output.{Done, Ahead}
 use Rattle.growth.specs.Walking.{Gives, Ahead-of}
@@ -84,6 +85,11 @@ abbrev pub Outcome : (ds : List Drawing) (s l : ℕ) (P : List (List Rec) → Ty
 Outcome ds s l P cs old out (To k) = Lists-more ds P cs old out k
 Outcome ds s l P cs old out Full = Too-many ds s l (length out)
 
+-- so many entries, unless one does not fit
+abbrev pub growth-of : (full : Bool) (count : ℕ) → Growth
+growth-of true count = Full
+growth-of false count = To count
+
 -- what stands in the output fits
 abbrev pub Room-left : (out : List ℕ) → Growth → Type 0
 Room-left out (To k) = 42 * k ≤ length out
@@ -104,10 +110,10 @@ pub record Pattern-grown (survey : List ℕ) (g : Settings) (γ : List Rec) (cel
       (g .limit) γ) cs old
       out-now r
 
--- WHICH RECORDS WERE COUNTED after γ, or of a lone device of some kind
-abbrev pub Fit : (kind : ℕ) → List Rec → Drawing → Rec → Type 0
-Fit k [] = First-of k
-Fit k (r ∷ rs) = Grown (r ∷ rs)
+-- WHICH RECORDS WERE COUNTED after γ, above some floors, or of a lone device of some kind
+abbrev pub Fit : (kind : ℕ) (floors : List ℕ) → List Rec → Drawing → Rec → Type 0
+Fit k floors [] = First-of k
+Fit k floors (r ∷ rs) = Grown-above (r ∷ rs) floors
 
 -- the records at the candidates' places
 abbrev pub candidates-in : (kind : ℕ) → List Rec → (alphabet : List ℕ) (n : ℕ) → (candidates : List ℕ) → List Rec
@@ -121,8 +127,9 @@ pub record Can-walk-candidates (survey labels rank alphabet : List ℕ) (g : Set
   pub more : length γ < g .limit
   pub greedy : Greedy kinds-before (decoded γ) [] γ
   pub sets : ℕ → List Bool
+  pub floors : List ℕ
   pub counting :
-      Counting (place-of rank (g .labels)) (Fit kind γ) (drawings-of survey) (length (drawings-of survey)) sets
+      Counting (place-of rank (g .labels)) (Fit kind floors γ) (drawings-of survey) (length (drawings-of survey)) sets
   pub chosen : Chosen-cells sets (g .threshold) (g .labels) (part from top list)
   pub low : from ≤ top
   pub at-hand : At-hand cells seen list top (suc (length γ))

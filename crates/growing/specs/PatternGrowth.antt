@@ -1,10 +1,11 @@
 -- Growing a pattern: that it may be taken up, and what is listed when it is passed over, does not fit, is as large as the
 -- limit, or its next cables were walked. Rests on Growths and Walking. Assumes nothing.
 use mathlib.Core.Path.{_≡_, refl, sym, ap, _∙_, subst}
-use mathlib.Core.Bool.{Bool}
+use mathlib.Core.Bool.{Bool, true}
 use mathlib.Core.List.{List, [], _∷_, _++_, map, append-nil, append-assoc}
 use Prim.Native.Nat.{ℕ, _+_, _*_, _/_, _^_, _≤_, _<_}
 use native.Mathlib.Omega.{arith}
+use borrow.Author.Tests.{eqb-true}
 use lib.ListN.{length, drop, length-map}
 use lib.Seq.{drop-drop}
 use Rattle.laws.specs.Lists.{Mem, snoc, snoc-length, map-append}
@@ -23,7 +24,9 @@ use Rattle.growth.specs.Growth.{Listed, Listed-by, listed-leaf}
 use Rattle.growth.specs.Frequent.{Frequent}
 use Rattle.growth.specs.Places.{place-of}
 use Rattle.growth.specs.CellLaws.{cell-count-is, count-true-bound}
-use Rattle.growth.specs.CountingExtensions.{All-patterns, Grown, Counting}
+use Rattle.growth.specs.CountingExtensions.{All-patterns, Counting}
+use Rattle.codes.specs.ReadRows.{good-from-test}
+use Rattle.growth.specs.Floors.{Floors-of, Above, Grown-above}
 use Rattle.growth.specs.ListedBy.{Chosen-places, place-in, chosen-places, chosen-listed}
 use Rattle.growth.specs.Output.{Done, Ahead, done-snoc, ahead-child}
 use Rattle.growth.specs.Walking.{Gives, passed, taken, Ahead-of, ahead-of-child}
@@ -37,14 +40,16 @@ use Rattle.walks.specs.LabelMarks.{drawings-of}
 use Rattle.laws.specs.PutRecords.{put-record}
 use Rattle.laws.specs.PutRecordLaws.{put-length}
 use Rattle.growth.specs.EntryLaws.{entry-size, entry-behind}
-use Rattle.walks.specs.Prepared.{Counted-cells}
+use Rattle.walks.specs.FloorLaws.{least-above}
 use Rattle.walks.specs.PreparedLaws.{drawings-counted, prepared-few, prepared-patterns}
 use Rattle.walks.specs.Counts.{Can-count}
 use Rattle.laws.specs.Parts.{part}
-use Rattle.walks.specs.Choices.{List-kept, Of-sets, Can-choose, Chose}
+use Rattle.walks.specs.Choices.{List-kept}
+use Rattle.choosing.specs.NextChosen.{Room-to-choose, Next-chosen}
 use Rattle.candidates.specs.HeldCode.{Code-held}
-use Rattle.taking.specs.Taking.{Can-take-candidate, Not-least, No-room, Entry-put, Candidate-taken}
+use Rattle.taking.specs.Taking.{Can-take-candidate, Entry-put, Candidate-taken, over-of, full-of, count-of, Taken-on, Goes-on}
 use Rattle.growing.specs.GrowthOutcomes.{
+  growth-of,
   Can-grow-pattern,
   Lists,
   Outcome,
@@ -54,17 +59,6 @@ use Rattle.growing.specs.GrowthOutcomes.{
   Can-walk-candidates,
   Candidates-walked,
 }
-
--- WHAT BECAME OF A CANDIDATE, by the answer
-module _ (γ : List Rec) (cell count : ℕ) (out z : List ℕ) {v : Taken} where
-  pub took-passed : v ≡ Passed → Candidate-taken γ cell count out v z → Not-least γ out z
-  took-passed e t = subst (λ (w : Taken). Candidate-taken γ cell count out w z) e t
-
-  pub took-full : v ≡ answers.Full → Candidate-taken γ cell count out v z → No-room γ count out z
-  took-full e t = subst (λ (w : Taken). Candidate-taken γ cell count out w z) e t
-
-  pub took-written : v ≡ Written → Candidate-taken γ cell count out v z → Entry-put γ cell count out z
-  took-written e t = subst (λ (w : Taken). Candidate-taken γ cell count out w z) e t
 
 -- AN ENTRY MORE behind those that are listed
 pub lists-next :
@@ -93,22 +87,32 @@ pub lists-same : {ds : List Drawing} {cs : List (List Rec)} {old out : List ℕ}
     (cs ++ []) old out count
 lists-same {ds} {cs} {old} {out} {count} t = subst (λ (xs : List (List Rec)). Lists ds xs old out count) (sym (append-nil cs)) t
 
--- WHAT IS COUNTED after a code of some records is what extends it
+-- WHAT IS COUNTED after a code of some records is what extends it above some floors
 pub fit-grown :
-    {place : Rec → ℕ} {ds : List Drawing} {i : ℕ} {sets : ℕ → List Bool} (k : ℕ) (γ : List Rec) → 1 ≤ length γ
-    → Counting place (Grown γ) ds i sets → Counting place (Fit k γ) ds i sets
-fit-grown k [] h c = absurd (omega arith)
-fit-grown k (r ∷ rs) h c = c
+    {place : Rec → ℕ} {ds : List Drawing} {i : ℕ} {sets : ℕ → List Bool} (k : ℕ) (floors : List ℕ) (γ : List Rec) → 1 ≤ length γ
+    → Counting place (Grown-above γ floors) ds i sets → Counting place (Fit k floors γ) ds i sets
+fit-grown k floors [] h c = absurd (omega arith)
+fit-grown k floors (r ∷ rs) h c = c
+
+-- what is frequent is above the floors of the code
+frequent-above :
+    {ds : List Drawing} {s : ℕ} (γ : List Rec) (floors : List ℕ) → Floors-of γ floors → (e : Rec) → Frequent kinds-before ds s (snoc γ e)
+    → Above floors e
+frequent-above γ floors laid e f =
+    least-above γ e floors laid (good-from-test (snoc γ e) (f .least .code .good) .accepted) (pattern-from-test (decoded (snoc γ e)) (f .drawn))
+    (f .least)
 
 -- so the candidates hold all that goes on
 pub candidates-listed :
     {ds : List Drawing} {rank alphabet : List ℕ} {n : ℕ} {sets : ℕ → List Bool} {s : ℕ} (qs : List ℕ) → All-patterns ds
-    → Rattle.growth.specs.Places.Ranks ds rank alphabet n → (k : ℕ) (γ : List Rec) → 1 ≤ length γ → length γ ≤ 7
-    → Counting (place-of rank n) (Fit k γ) ds (length ds) sets → 1 ≤ s → Chosen-places sets s n (map place-in qs) → (l : ℕ) (cs : List (List Rec))
+    → Rattle.growth.specs.Places.Ranks ds rank alphabet n → (k : ℕ) (floors : List ℕ) (γ : List Rec) → 1 ≤ length γ → length γ ≤ 7
+    → Floors-of γ floors → Counting (place-of rank n) (Fit k floors γ) ds (length ds) sets → 1 ≤ s → Chosen-places sets s n (map place-in qs)
+    → (l : ℕ) (cs : List (List Rec))
     → Listed-by kinds-before kinds-order (Frequent kinds-before ds s) l γ (candidates-in k γ alphabet n qs) cs
     → Listed kinds-before kinds-order (Frequent kinds-before ds s) l γ cs
-candidates-listed qs patterns o k [] some few c one h l cs t = absurd (omega arith)
-candidates-listed qs patterns o k (r ∷ rs) some few c one h l cs t = chosen-listed patterns o r rs few c one h l cs t
+candidates-listed qs patterns o k floors [] some few laid c one h l cs t = absurd (omega arith)
+candidates-listed qs patterns o k floors (r ∷ rs) some few laid c one h l cs t =
+    chosen-listed patterns o r rs few floors c (frequent-above (r ∷ rs) floors laid) one h l cs t
 
 module _ {survey labels rank alphabet : List ℕ} {g : Settings} {γ : List Rec} {cell : ℕ} {cells seen list : List ℕ} {base : ℕ} {out : List ℕ}
     {count : ℕ} (a : Can-grow-pattern survey labels rank alphabet g γ cell cells seen list base out count) where
@@ -211,98 +215,102 @@ module _ {survey labels rank alphabet : List ℕ} {g : Settings} {γ : List Rec}
               };
         }
 
-    -- SMALLER: its next cables are counted, chosen and walked
-    module _ (smaller : (length γ ≡ g .limit → ⊥)) where
-      less : length γ < g .limit
-      less = omega (arith, a .most)
+  -- SMALLER: its next cables are chosen and walked
+  module _ {mid : List ℕ} {more : ℕ} (o : Goes-on γ cell (g .limit) count out more mid) where
+    less : length γ < g .limit
+    less = omega (arith, a .most, o .smaller)
 
-      module _ {cells₁ seen₁ : List ℕ} {found : ℕ}
-          (c : Counted-cells (drawings-of survey) (Grown γ) rank (g .labels) cells₁ seen₁ found) where
-        sets-few : (p : ℕ) → length (c .sets p) ≤ 32
-        sets-few p = omega (arith, c .counting .size p, few)
+    pub grow-room : Room-to-choose (g .threshold) list base
+    grow-room =
+        record {
+          one = a .set-up .one;
+          list-size = a .at-hand .list-size;
+          room = omega (arith, a .at-hand .room, less, a .set-up .small);
+        }
 
-        of-sets : Of-sets (c .sets) cells₁
-        of-sets = record { few = sets-few; cell = c .cell }
+    module _ {cells₂ seen₂ list₂ : List ℕ} {top : ℕ}
+        (c : Next-chosen (drawings-of survey) γ rank (g .labels) (g .threshold) cells₂ seen₂ list base list₂ top) where
+      sets-few : (p : ℕ) → length (c .sets p) ≤ 32
+      sets-few p = omega (arith, c .counting .size p, few)
 
-        pub grow-chooses : Can-choose cells₁ seen₁ found (g .threshold) list base
-        grow-chooses =
-            record {
-              sets = c .sets;
-              of-sets = of-sets;
-              places = c .places;
-              sized = c .sized;
-              one = a .set-up .one;
-              list-size = a .at-hand .list-size;
-              room = omega (arith, a .at-hand .room, less, a .set-up .small);
-            }
+      pub grow-walks : Can-walk-candidates survey labels rank alphabet g γ 0 cells₂ seen₂ list₂ base top mid more
+      grow-walks =
+          record {
+            set-up = a .set-up;
+            accepted = a .candidate .accepted;
+            more = less;
+            greedy =
+                least-greedy kinds-before kinds-order (decoded γ) (pattern-from-test (decoded γ) (a .candidate .drawn)) γ (o .put .least);
+            sets = c .sets;
+            floors = c .floors;
+            counting = fit-grown 0 (c .floors) γ (a .some) (c .counting);
+            chosen = c .chosen;
+            low = c .low;
+            at-hand = record { blank = c .blank; list-size = c .kept .size; room = omega (arith, c .high, a .at-hand .room) };
+            out-room = omega (arith, mid-room (o .put), o .one-more);
+          }
 
-        module _ {cells₂ list₂ : List ℕ} {top : ℕ} (t : Chose cells₁ (g .threshold) list base cells₂ seen₁ list₂ top) where
-          chosen : Rattle.growth.specs.ListedBy.Chosen-cells (c .sets) (g .threshold) (g .labels) (part base top list₂)
-          chosen = t .chosen (c .sets) of-sets (g .labels) (a .set-up .prepared .ranks .most)
+      pub grow-went :
+          {cells₃ seen₃ list₃ z : List ℕ} {r : Growth} → Candidates-walked survey alphabet g 0
+          γ cells₃ seen₃ list₂ base top list₃ mid more r z
+          → Pattern-grown survey g γ cells₃ seen₃ list base list₃ out count r z
+      grow-went {z = z} {r = r} w =
+          record {
+            blank = w .blank;
+            kept = record { size = w .kept .size; below = λ k l. w .kept .below k (omega (arith, c .low)) ∙ c .kept .below k l };
+            size = w .size ∙ mid-size (o .put);
+            room = w .room;
+            told = λ cs old q u.
+                go cs old r (w .told (snoc cs γ) old (ahead cs q)
+                (subst (λ (k : ℕ). Lists ds (snoc cs γ) old mid k) (sym (o .one-more)) (listed (o .put) cs old q u)));
+          }
+        where
+          ahead : (cs : List (List Rec)) → Ahead kinds-before kinds-order (drawings-of survey) (g .threshold) (g .limit) cs γ
+              → Ahead-of kinds-before kinds-order (drawings-of survey) (g .threshold) (g .limit) (snoc cs γ) γ
+              (candidates-in 0 γ alphabet (g .labels) (part base top list₂))
+          ahead cs q =
+              ahead-of-child kinds-before kinds-order ds (g .threshold) (g .limit) cs γ _
+              (done-snoc kinds-before kinds-order ds (g .threshold) (g .limit) cs γ q (frequent (o .put .least)) (a .most))
+              (λ e. ahead-child kinds-before kinds-order ds (g .threshold) (g .limit) cs γ e q (frequent (o .put .least)) (a .most))
 
-          pub grow-walks : Can-walk-candidates survey labels rank alphabet g γ 0 cells₂ seen₁ list₂ base top mid (count + 1)
-          grow-walks =
+          all : (more : List (List Rec))
+              → Listed-by kinds-before kinds-order (Frequent kinds-before (drawings-of survey) (g .threshold)) (g .limit) γ
+              (candidates-in 0 γ alphabet (g .labels) (part base top list₂)) more
+              → Listed kinds-before kinds-order (Frequent kinds-before (drawings-of survey) (g .threshold)) (g .limit) γ more
+          all more =
+              candidates-listed (part base top list₂) (prepared-patterns (a .set-up .prepared)) (a .set-up .prepared .ranks) 0
+              (c .floors) γ (a .some) (omega (arith, less, a .set-up .small)) (c .laid)
+              (fit-grown 0 (c .floors) γ (a .some) (c .counting)) (a .set-up .one)
+              (chosen-places (c .sets) (g .threshold) (g .labels) (part base top list₂) sets-few (c .chosen)) (g .limit) more
+
+          go : (cs : List (List Rec)) (old : List ℕ) (r : Growth)
+              → Outcome (drawings-of survey) (g .threshold) (g .limit)
+              (Listed-by kinds-before kinds-order (Frequent kinds-before (drawings-of survey) (g .threshold)) (g .limit) γ
+              (candidates-in 0 γ alphabet (g .labels) (part base top list₂))) (snoc cs γ) old z r
+              → Outcome (drawings-of survey) (g .threshold) (g .limit)
+              (Gives kinds-before kinds-order (drawings-of survey) (g .threshold) (g .limit) γ) cs old z r
+          go cs old (To k) m =
               record {
-                set-up = a .set-up;
-                accepted = a .candidate .accepted;
-                more = less;
-                greedy =
-                    least-greedy kinds-before kinds-order (decoded γ) (pattern-from-test (decoded γ) (a .candidate .drawn)) γ (p .least);
-                sets = c .sets;
-                counting = fit-grown 0 γ (a .some) (c .counting);
-                chosen = chosen;
-                low = t .low;
-                at-hand = record { blank = t .blank; list-size = t .kept .size; room = omega (arith, t .high, a .at-hand .room) };
-                out-room = mid-room;
+                more = γ ∷ m .more;
+                which = taken (frequent (o .put .least)) (a .most) (all (m .more) (m .which));
+                lists = subst (λ (xs : List (List Rec)). Lists ds xs old z k) (append-assoc cs (γ ∷ []) (m .more)) (m .lists);
+                room = m .room;
               }
+          go cs old Full m = m
 
-          pub grow-went :
-              {cells₃ seen₃ list₃ z : List ℕ} {r : Growth} → Candidates-walked survey alphabet g 0
-              γ cells₃ seen₃ list₂ base top list₃ mid (count + 1) r z
-              → Pattern-grown survey g γ cells₃ seen₃ list base list₃ out count r z
-          grow-went {z = z} {r = r} w =
-              record {
-                blank = w .blank;
-                kept = record { size = w .kept .size; below = λ k l. w .kept .below k (omega (arith, t .low)) ∙ t .kept .below k l };
-                size = w .size ∙ mid-size;
-                room = w .room;
-                told = λ cs old q u.
-                    go cs old r (w .told (snoc cs γ) old (ahead cs q) (listed cs old q u));
-              }
-            where
-              ahead : (cs : List (List Rec)) → Ahead kinds-before kinds-order (drawings-of survey) (g .threshold) (g .limit) cs γ
-                  → Ahead-of kinds-before kinds-order (drawings-of survey) (g .threshold) (g .limit) (snoc cs γ) γ
-                  (candidates-in 0 γ alphabet (g .labels) (part base top list₂))
-              ahead cs q =
-                  ahead-of-child kinds-before kinds-order ds (g .threshold) (g .limit) cs γ _
-                  (done-snoc kinds-before kinds-order ds (g .threshold) (g .limit) cs γ q (frequent (p .least)) (a .most))
-                  (λ e. ahead-child kinds-before kinds-order ds (g .threshold) (g .limit) cs γ e q (frequent (p .least)) (a .most))
-
-              all : (more : List (List Rec))
-                  → Listed-by kinds-before kinds-order (Frequent kinds-before (drawings-of survey) (g .threshold)) (g .limit) γ
-                  (candidates-in 0 γ alphabet (g .labels) (part base top list₂)) more
-                  → Listed kinds-before kinds-order (Frequent kinds-before (drawings-of survey) (g .threshold)) (g .limit) γ more
-              all more =
-                  candidates-listed (part base top list₂) (prepared-patterns (a .set-up .prepared)) (a .set-up .prepared .ranks) 0 γ
-                  (a .some)
-                  (omega (arith, less, a .set-up .small))
-                  (fit-grown 0 γ (a .some) (c .counting)) (a .set-up .one)
-                  (chosen-places (c .sets) (g .threshold) (g .labels) (part base top list₂) sets-few chosen) (g .limit) more
-
-              go : (cs : List (List Rec)) (old : List ℕ) (r : Growth)
-                  → Outcome (drawings-of survey) (g .threshold) (g .limit)
-                  (Listed-by kinds-before kinds-order (Frequent kinds-before (drawings-of survey) (g .threshold)) (g .limit) γ
-                  (candidates-in 0 γ alphabet (g .labels) (part base top list₂))) (snoc cs γ) old z r
-                  → Outcome (drawings-of survey) (g .threshold) (g .limit)
-                  (Gives kinds-before kinds-order (drawings-of survey) (g .threshold) (g .limit) γ) cs old z r
-              go cs old (To k) m =
-                  record {
-                    more = γ ∷ m .more;
-                    which = taken (frequent (p .least)) (a .most) (all (m .more) (m .which));
-                    lists = subst (λ (xs : List (List Rec)). Lists ds xs old z k) (append-assoc cs (γ ∷ []) (m .more)) (m .lists);
-                    room = m .room;
-                  }
-              go cs old Full m = m
+  -- THAT WAS ALL: passed over, without room, or as large as the limit
+  module _ {over full : Bool} {more : ℕ} {z : List ℕ} (t : Taken-on γ cell (g .limit) count out over full more z) where
+    pub grow-over : {r : Growth} → over ≡ true → r ≡ growth-of full more → Pattern-grown survey g γ cells seen list base list out count r z
+    grow-over {r} o e =
+        subst (λ (v : Growth). Pattern-grown survey g γ cells seen list base list out count v z)
+        (sym (e ∙ ap (λ (b : Bool). growth-of b more) (t .full-is) ∙ ap (growth-of (full-of (t .taken))) (t .count-is)))
+        (go (t .taken) (t .told) (sym (t .over-is) ∙ o))
+      where
+        go : (v : Taken) → Candidate-taken γ cell count out v z → over-of (length γ) (g .limit) v ≡ true
+            → Pattern-grown survey g γ cells seen list base list out count (growth-of (full-of v) (count-of count v)) z
+        go Passed w e = grow-passed (w .not-least) z (w .same)
+        go answers.Full w e = grow-full (w .least) (w .short) z (w .same)
+        go Written w e = grow-leaf w (eqb-true (length γ) (g .limit) e)
 
 -- IN PLACE: a code of m records in front of an array
 module _ {survey labels rank alphabet : List ℕ} {g : Settings} {code kinds : List ℕ} {m n : ℕ} (h : Code-held code kinds m n) {cell : ℕ}
@@ -325,7 +333,7 @@ module _ {survey labels rank alphabet : List ℕ} {g : Settings} {code kinds : L
         out-room = a .out-room;
       }
 
-  pub grow-counts : (m ≡ g .limit → ⊥) → Can-count survey code m cell
+  pub grow-counts : (length (recs-in m code) ≡ g .limit → ⊥) → Can-count survey code m cell
   grow-counts smaller =
       record {
         accepted = a .candidate .accepted;

@@ -1,27 +1,24 @@
 // Growing a pattern and walking its next cables, which call each other: a pattern that is frequent and whose code is the
 // least is written, and grown by every cable that may come next, in rising order, up to the size limit.
 use candidates::choose::CANDIDATES;
-use candidates::choose::PLACE;
-use candidates::choose::choose;
-use candidates::extension::append;
-use candidates::extension::next_record;
-use candidates::hopeful::hopeless;
-use counting::next::count_next;
+use choosing::next::choose_next;
+use embeddings::rows::KEPT;
 use listing::level::ENDS;
-use listing::rows::KEPT;
+use looking::ahead::next_hopeful;
 use marking::cells::PLACES;
 use records::code::Code;
 use surveys::labels::TABLES;
 use surveys::ranks::ALPHABET;
 use surveys::ranks::LABELS;
-use taking::take::Taken;
-use taking::take::take_up;
+use taking::take::Step;
+use taking::take::take_on;
+ghost use mathlib.Core.Path.{_≡_};
 ghost use Prim.Native.Nat.{_+_};
 ghost use Rattle.codes.specs.Code.{recs-in};
 ghost use Rattle.walks.specs.LabelMarks.{drawings-of};
 ghost use Rattle.walks.specs.EmbeddingLists.{Lists-kept};
 ghost use Rattle.growing.specs.ListsHanded.{Lists-below, Lists-at};
-ghost use Rattle.growing.specs.GrowthOutcomes.{Can-grow-pattern};
+ghost use Rattle.growing.specs.GrowthOutcomes.{growth-of, Can-grow-pattern};
 ghost use Rattle.growing.specs.GrowthOutcomes.{Pattern-grown, Can-walk-candidates, Candidates-walked};
 ghost use Rattle.candidates.specs.HeldCode.{Code-held, Code-kept};
 
@@ -37,6 +34,16 @@ pub struct Settings {
 pub enum Growth {
     To(usize),
     Full,
+}
+
+// What stands in the output after a pattern of which that was all.
+fn ended(step: Step) -> Growth
+    ensures { λ r. ⌜ r ≡ growth-of (step .full) (step .count) ⌝ }
+{
+    if step.full {
+        return Growth::Full;
+    }
+    Growth::To(step.count)
 }
 
 // Grows the pattern of a code, which the drawings of a cell contain: its records stand in front in `code`, the kinds of its devices
@@ -71,30 +78,27 @@ pub fn grow(
         × Code-kept cables devices (now (code .entry)) (now (kinds .entry)) (now (code .exit)) (now (kinds .exit))
         × Lists-kept cables (now (kept .entry)) (now (ends .entry)) (now (kept .exit)) (now (ends .exit)) ⌝ }
 {
-    match take_up(code, cables, devices, cell, output, count) {
-        Taken::Passed => return Growth::To(count),
-        Taken::Full => return Growth::Full,
-        Taken::Written => {}
+    let step = take_on(code, cables, devices, cell, settings.limit, output, count);
+    if step.over {
+        return ended(step);
     }
-    if cables == settings.limit {
-        return Growth::To(count + 1);
-    }
-    let n = settings.labels;
-    let next = count_next(
+    let next = choose_next(
         survey,
         labels,
         rank,
-        n,
+        settings.labels,
+        settings.threshold,
         code,
         cables,
         cell,
-        listed,
         cells,
         seen,
+        list,
+        base,
+        listed,
         kept,
         ends,
     );
-    let top = choose(cells, seen, next.found, settings.threshold, list, base);
     walk(
         survey,
         labels,
@@ -110,12 +114,12 @@ pub fn grow(
         seen,
         list,
         base,
-        top,
+        next.top,
         next.listed,
         kept,
         ends,
         output,
-        count + 1,
+        step.count,
     )
 }
 
@@ -153,39 +157,48 @@ pub fn walk(
         × Code-kept cables devices (now (code .entry)) (now (kinds .entry)) (now (code .exit)) (now (kinds .exit))
         × Lists-kept (cables + 1) (now (kept .entry)) (now (ends .entry)) (now (kept .exit)) (now (ends .exit)) ⌝ }
 {
-    let n = settings.labels;
     let mut written = count;
-    for k in from..top {
-        let candidate = list[k];
-        let place = (candidate / PLACE) as usize;
-        let next = next_record(kinds, devices, kind, alphabet, n, place);
-        if !hopeless(code, cables, next) {
-            let wider = append(code, kinds, cables, devices, next);
-            let Growth::To(more) = grow(
-                survey,
-                labels,
-                rank,
-                alphabet,
-                settings,
-                code,
-                kinds,
-                cables + 1,
-                wider,
-                candidate % PLACE,
-                cells,
-                seen,
-                list,
-                top,
-                listed,
-                kept,
-                ends,
-                output,
-                written,
-            ) else {
-                return Growth::Full;
-            };
-            written = more;
+    let mut k = from;
+    loop {
+        let next = next_hopeful(
+            code,
+            kinds,
+            cables,
+            devices,
+            kind,
+            alphabet,
+            settings.labels,
+            list,
+            k,
+            top,
+        );
+        if next.at == top {
+            return Growth::To(written);
         }
+        let Growth::To(more) = grow(
+            survey,
+            labels,
+            rank,
+            alphabet,
+            settings,
+            code,
+            kinds,
+            cables + 1,
+            next.wider,
+            next.cell,
+            cells,
+            seen,
+            list,
+            top,
+            listed,
+            kept,
+            ends,
+            output,
+            written,
+        ) else {
+            return Growth::Full;
+        };
+        written = more;
+        k = next.at + 1;
     }
-    Growth::To(written)
 }

@@ -26,17 +26,14 @@ use Rattle.growth.specs.PlacedRecords.{alone, fits-placed, fits-first-pl
 use Rattle.growth.specs.CountingExtensions.{
   drawing-at,
   All-patterns,
-  Grown,
   First-of,
   Fits-at,
   Counting,
   containing-at,
 }
+use Rattle.growth.specs.Floors.{Grown-above}
 
 -- ALL DRAWINGS WERE WALKED
-abbrev pub Counted-extensions : (ds : List Drawing) (γ : List Rec) (rank : List ℕ) (n : ℕ) (sets : ℕ → List Bool) → Type 0
-Counted-extensions ds γ rank n sets = Counting (place-of rank n) (Grown γ) ds (length ds) sets
-
 abbrev pub Counted-firsts : (ds : List Drawing) (k : ℕ) (rank : List ℕ) (n : ℕ) (sets : ℕ → List Bool) → Type 0
 Counted-firsts ds k rank n sets = Counting (place-of rank n) (First-of k) ds (length ds) sets
 
@@ -78,13 +75,13 @@ pub record Extending (ds : List Drawing) (rank labels : List ℕ) (n : ℕ) (γ 
 
 module _ {ds : List Drawing} {rank labels : List ℕ} {n : ℕ} (patterns : All-patterns ds) (o : Ranks ds rank labels n) where
   pub rows-extending :
-      (r : Rec) (rs : List Rec) → length (r ∷ rs) ≤ 7
-      → Extending ds rank labels n (r ∷ rs) (read-rows fresh (r ∷ rs)) (Grown (r ∷ rs))
-  rows-extending r rs few =
+      (r : Rec) (rs : List Rec) → length (r ∷ rs) ≤ 7 → (floors : List ℕ)
+      → Extending ds rank labels n (r ∷ rs) (read-rows fresh (r ∷ rs)) (Grown-above (r ∷ rs) floors)
+  rows-extending r rs few floors =
       record {
-        placed = λ d m e t. fits-placed o d m (patterns d m) r rs few e t;
-        grown = λ d e t. t;
-        again = λ d g e f t. t;
+        placed = λ d m e t. fits-placed o d m (patterns d m) r rs few e (t .0);
+        grown = λ d e t. t .0;
+        again = λ d g e f t. (t, f .1);
       }
 
   pub first-extending : (k : ℕ) → Extending ds rank labels n [] (alone k) (First-of k)

@@ -19,6 +19,7 @@ pub mod RecordOrder
 pub mod PlaceLaws
 pub mod PlacedRecords
 pub mod CountingExtensions
+pub mod Floors
 pub mod Counted
 pub mod ListedBy
 pub mod Firsts

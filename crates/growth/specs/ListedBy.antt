@@ -1,5 +1,5 @@
 -- Candidates in the order of a walk: the records at the places with s drawings, rising by place, rise as records and hold
--- every next record of what is frequent; lists of what goes on by them join. Rests on Counted-extensions and Growth. Assumes nothing.
+-- every next record of what is frequent; lists of what goes on by them join. Rests on Counted and Growth. Assumes nothing.
 use mathlib.Core.Path.{_≡_, refl, sym, ap, _∙_, subst}
 use mathlib.Core.Bool.{Bool, true}
 use mathlib.Core.List.{List, [], _∷_, _++_, map, append-nil}
@@ -32,8 +32,8 @@ use Rattle.growth.specs.Places.{Ranks, place-of, record-at, cell-number,
 use Rattle.growth.specs.CellLaws.{cell-number-below, candidate-place, candidate-rises}
 use Rattle.growth.specs.PlaceLaws.{place-below, place-record, place-order}
 use Rattle.growth.specs.CountingExtensions.{All-patterns, Counting}
+use Rattle.growth.specs.Floors.{Above, Grown-above}
 use Rattle.growth.specs.Counted.{
-  Counted-extensions,
   Extending,
   rows-extending,
   frequent-fits,
@@ -142,17 +142,20 @@ module _ {ds : List Drawing} {rank labels : List ℕ} {n : ℕ} {γ : List Rec} 
       (mem-map (record-at x labels n)
       (h .all (place-of rank n e) (place-below w) (counted-candidate t c s one kinds-before e into g)))
 
--- AFTER ROWS: what goes on by the records at chosen places is all that goes on
+-- AFTER ROWS: what goes on by the records at chosen places is all that goes on, if what is frequent is above the floors
 module _ {ds : List Drawing} {rank labels : List ℕ} {n : ℕ} {sets : ℕ → List Bool} {s : ℕ} {ps : List ℕ} (patterns : All-patterns ds)
-    (o : Ranks ds rank labels n) (r : Rec) (rs : List Rec) (few : length (r ∷ rs) ≤ 7) (c : Counted-extensions ds (r ∷ rs) rank n sets) (one : 1 ≤ s)
-    (h : Chosen-places sets s n ps) where
+    (o : Ranks ds rank labels n) (r : Rec) (rs : List Rec) (few : length (r ∷ rs) ≤ 7) (floors : List ℕ)
+    (c : Counting (place-of rank n) (Grown-above (r ∷ rs) floors) ds (length ds) sets)
+    (above : (e : Rec) → Frequent kinds-before ds s (snoc (r ∷ rs) e) → Above floors e) (one : 1 ≤ s) (h : Chosen-places sets s n ps) where
   pub chosen-listed :
       (l : ℕ) (cs : List (List Rec))
       → Listed-by kinds-before kinds-order (Frequent kinds-before ds s) l (r ∷ rs) (records-at (read-rows fresh (r ∷ rs)) labels n ps) cs
       → Listed kinds-before kinds-order (Frequent kinds-before ds s) l (r ∷ rs) cs
   chosen-listed l cs =
       listed-all kinds-before kinds-order (Frequent kinds-before ds s) l (r ∷ rs) (records-at (read-rows fresh (r ∷ rs)) labels n ps) cs
-      (λ e more f. chosen-all o (rows-extending patterns o r rs few) c one h e more (λ d t. t) f)
+      (λ e more f.
+      chosen-all o (rows-extending patterns o r rs few floors) c one h e more
+      (λ d t. (t, above e (frequent-prefix kinds-before kinds-order ds s (r ∷ rs) e more f))) f)
 
 -- LISTS JOIN: what goes on by earlier next records, then by later ones
 module _ (labels : Rec → Rec → Bool) (o : Label-order labels) (good : List Rec → Type 0) (l : ℕ) where

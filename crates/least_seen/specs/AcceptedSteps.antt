@@ -36,8 +36,8 @@ use Rattle.codes.specs.TwinBranches.{twin-label, twin-edge-better}
 use Rattle.tables.specs.declared.«record».Order.the-variants.{Before, Equal, After}
 use Rattle.tables.specs.RecordLaws.{record-read}
 use Rattle.tables.specs.CodeRows.{code-simple, record-accepted, records-through, records-on}
-use Rattle.branches.specs.Branches.{chorded, edged, device-placed, Places}
-use Rattle.branches.specs.InPlaceLaws.{chorded-is, edged-is, bounds-places}
+use Rattle.branches.specs.Branches.{chorded, device-placed, Places, Same-arrays}
+use Rattle.branches.specs.InPlaceLaws.{chorded-is, bounds-places, all-same}
 use Rattle.least_seen.specs.Betters.{Better-below}
 use Rattle.least_seen.specs.BetterLaws.{Sees}
 use Rattle.least_seen.specs.TestFollowLaws.{sees, follows-bounds}
@@ -73,8 +73,18 @@ use Rattle.least_seen.specs.AcceptedLaws.{
 }
 
 -- WHAT WAS GIVEN, taken back
+pub taken-same :
+    {r : Bool} {numbers₀ numbers path₀ path : List ℕ} {used₀ used : List Bool} → Same-arrays numbers₀ numbers used₀ used path₀ path
+    → Taken-back r numbers₀ numbers used₀ used path₀ path
+taken-same s = record { numbers-same = λ e. s .numbers-same; used-same = λ e. s .used-same; path-same = λ e. s .path-same }
+
+pub kept :
+    {r : Bool} {numbers₀ numbers path₀ path : List ℕ} {used₀ used : List Bool} → Taken-back r numbers₀ numbers used₀ used path₀ path → r ≡ false
+    → Same-arrays numbers₀ numbers used₀ used path₀ path
+kept s e = record { numbers-same = s .numbers-same e; used-same = s .used-same e; path-same = s .path-same e }
+
 pub untouched : {r : Bool} {numbers path : List ℕ} {used : List Bool} → Taken-back r numbers numbers used used path path
-untouched = record { numbers-same = λ e. refl; used-same = λ e. refl; path-same = λ e. refl }
+untouched = taken-same all-same
 
 pub not-taken : {numbers₀ numbers path₀ path : List ℕ} {used₀ used : List Bool} → Taken-back true numbers₀ numbers used₀ used path₀ path
 not-taken =
@@ -92,7 +102,7 @@ counted-free (inr x) h = absurd (omega (arith, x .0))
 -- of the device w: no lower label, and no way to it that leads to something better
 pub record Tried-way (t bs : List ℕ) (k : ℕ) (b : State) (q w : ℕ) : Type 0 where
   pub not-lower : getD (b .used) w true ≡ false → Lower (edge-label t b q w) (wanted-label bs k) → ⊥
-  pub no-way : getD (b .used) w true ≡ false → edge-label t b q w ≡ wanted-label bs k → Better-below bs (k + 1) (edged b q w) → ⊥
+  pub no-way : getD (b .used) w true ≡ false → edge-label t b q w ≡ wanted-label bs k → Better-below bs (k + 1) (with-edge b q w) → ⊥
 
 module _ {t bs : List ℕ} {m n k : ℕ} {b : State} (G : Test-goes-on t bs m n k b) where
   bounds : Bounds b
@@ -285,20 +295,16 @@ module _ {t bs : List ℕ} {m n k : ℕ} {b : State} (G : Test-goes-on t bs m n 
               unfolding e
               edge-way-room = front-room v e ss ok rises q low at-i byte w (free w h unused) label-own
 
-              pub edge-goes : Test-goes-on t bs m n (k + 1) (edged b q w)
+              pub edge-goes : Test-goes-on t bs m n (k + 1) (with-edge b q w)
               unfolding e
-              edge-goes =
-                  goes (edged b q w)
-                  (subst (Represents (decoded (code-records bs)) (snoc (take k (code-records bs)) e)) (edged-is b q w)
-                  (front-represents v e ss ok rises q low at-i byte w (free w h unused) label-own))
+              edge-goes = goes (with-edge b q w) (front-represents v e ss ok rises q low at-i byte w (free w h unused) label-own)
 
-              pub edge-tells : Better-below bs (k + 1) (edged b q w) → Better-below bs k b
+              pub edge-tells : Better-below bs (k + 1) (with-edge b q w) → Better-below bs k b
               unfolding e
               edge-tells x =
-                  here (front-on v e ss ok rises q low at-i byte w (free w h unused) label-own
-                  (next-to (with-edge b q w) (subst (Better-below bs (k + 1)) (sym (edged-is b q w)) x)))
+                  here (front-on v e ss ok rises q low at-i byte w (free w h unused) label-own (next-to (with-edge b q w) x))
 
-              pub tried-way : (Better-below bs (k + 1) (edged b q w) → ⊥) → Tried-way t bs k b q w
+              pub tried-way : (Better-below bs (k + 1) (with-edge b q w) → ⊥) → Tried-way t bs k b q w
               tried-way none =
                   record { not-lower = λ u x. omega (arith, x .1, label-own); no-way = λ u x. none }
 
@@ -324,14 +330,12 @@ module _ {t bs : List ℕ} {m n k : ℕ} {b : State} (G : Test-goes-on t bs m n 
               same f = twin-label d simple (v .ten) t (v .labels) (take k (code-records bs)) b (v .branch) (free w h f) x q low
 
               stands :
-                  getD (b .used) w true ≡ false → edge-label t b q w ≡ wanted-label bs k → Better-below bs (k + 1) (edged b q w)
-                  → Better-below bs (k + 1) (edged b q (x .u))
+                  getD (b .used) w true ≡ false → edge-label t b q w ≡ wanted-label bs k → Better-below bs (k + 1) (with-edge b q w)
+                  → Better-below bs (k + 1) (with-edge b q (x .u))
               stands f own z =
                   let room = front-room v e ss ok rises q low at-i byte w (free w h f) own in
-                  subst (Better-below bs (k + 1)) (edged-is b q (x .u))
-                  (twin-edge-better d simple (v .ten) t (v .labels) (take k (code-records bs)) b (v .branch) (free w h f) x kinds-before
-                  (take (k + 1) (code-records bs)) q room (drop (k + 1) (code-records bs))
-                  (subst (Better-below bs (k + 1)) (sym (edged-is b q w)) z))
+                  twin-edge-better d simple (v .ten) t (v .labels) (take k (code-records bs)) b (v .branch) (free w h f) x kinds-before
+                  (take (k + 1) (code-records bs)) q room (drop (k + 1) (code-records bs)) z
 
           -- ALL DEVICES TRIED
           pub edge-way-none :
@@ -366,5 +370,4 @@ module _ {t bs : List ℕ} {m n k : ℕ} {b : State} (G : Test-goes-on t bs m n 
 
               no-way : (w : ℕ) → Free b w → edge-label t b q w ≡ wanted-label bs k → Better-next (with-edge b q w) → ⊥
               no-way w f l y =
-                  tried w (in-range q w low f (omega arith)) .no-way (f .unused) l
-                  (subst (Better-below bs (k + 1)) (edged-is b q w) (next-from (with-edge b q w) y))
+                  tried w (in-range q w low f (omega arith)) .no-way (f .unused) l (next-from (with-edge b q w) y)

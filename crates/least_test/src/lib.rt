@@ -1,4 +1,3 @@
 // The least test of a code that is known to be accepted. Its functions ask of their callers what `requires` says; the entries
 // of the public crates ask nothing.
-pub mod better; // better.rt: whether a branch that follows a code sees a record before the code's own
 pub mod starts; // starts.rt: whether some start of what a code describes leads to a code before it

@@ -1,5 +1,5 @@
 // The starts of a least test: every cable of a code, seen from each of its ends, against the code's first record.
-use crate::better::first_better;
+use least_branches::better::better;
 use records::drawing::Drawing;
 use tables::record::Record;
 use tables::table::CELLS;
@@ -13,7 +13,7 @@ ghost use Rattle.codes.specs.BranchState.{first-state};
 ghost use Rattle.codes.specs.Twins.{Twins-noted};
 ghost use Rattle.tables.specs.Records.{as-rec};
 ghost use Rattle.least_seen.specs.Betters.{Better-below, Seen-cable, reversed-record, Begins-better, Some-start};
-ghost use Rattle.least_seen.specs.Accepting.{Test-counts};
+ghost use Rattle.least_seen.specs.Accepting.{Test-counts, Test-goes-on};
 ghost use Rattle.least_test.specs.LabelNumbers.{Numbers-labels};
 
 // The labels of a record as one number that rises as they do: kind of i, cable kind, kind of j.
@@ -34,6 +34,44 @@ pub fn reversed(cable: Record) -> Record
         c: cable.c,
         kj: cable.ki,
     }
+}
+
+// Whether the branch that begins with device u as 0 and device w as 1 sees a record before the code's own.
+fn first_better(
+    table: &[u32; CELLS],
+    twins: &[u8; Drawing::MOST_DEVICES],
+    code: &[u8],
+    m: usize,
+    n: usize,
+    u: usize,
+    w: usize,
+) -> bool
+    requires { ⌜ (u < 10) × (w < 10) × Test-goes-on (now table) (now code) m n 1 (first-state u w)
+        × Twins-noted (now table) (now twins) ⌝ }
+    ensures { λ r. ⌜ Decides r (Better-below (now (code .entry)) 1 (first-state u w)) ⌝ }
+{
+    let mut numbers = [0; Drawing::MOST_DEVICES];
+    numbers[0] = u as u8;
+    numbers[1] = w as u8;
+    let mut used = [false; Drawing::MOST_DEVICES];
+    used[u] = true;
+    used[w] = true;
+    let mut path = [0; Drawing::MOST_DEVICES];
+    path[1] = 1;
+    better(
+        table,
+        twins,
+        code,
+        m,
+        n,
+        1,
+        &mut numbers,
+        &mut used,
+        &mut path,
+        2,
+        2,
+        0,
+    )
 }
 
 // Whether a code that begins with a cable, seen from its i, comes before this one, whose first record has the labels `first`. Its

@@ -1,4 +1,4 @@
--- Writing the catalogue of an accepted survey, and the refusals before it. Rests on Mines and Catalogues. Assumes nothing.
+-- Writing the catalogue of an accepted survey, and the refusals before it. Rests on SurveyMined and Catalogues. Assumes nothing.
 use mathlib.Core.Path.{_≡_, refl, sym, ap, _∙_, subst}
 use mathlib.Core.Bool.{Bool, true, false, _&&_, not, cond}
 use mathlib.Core.List.{List, [], _∷_, _++_, map}
@@ -36,13 +36,11 @@ use Rattle.growing.specs.declared.grow.Growth.the-variants.{To, Full}
 use Rattle.growing.specs.declared.grow.Settings.{Settings}
 use Rattle.records.specs.Catalogued.{catalogued-refusal}
 use Rattle.mining.specs.CatalogueSays.{Entries-written, Catalogue-as, Catalogue-says}
-use Rattle.walks.specs.LabelMarks.{drawings-of, Zeroed}
+use Rattle.walks.specs.LabelMarks.{drawings-of}
 use Rattle.walks.specs.DrawingTables.{Tables}
-use Rattle.walks.specs.Tally.{Cells-sized}
 use Rattle.growth.specs.EntryLaws.{entries-sized}
-use Rattle.growth.specs.Sizes.{places-size, candidates-size}
 use Rattle.growing.specs.GrowthOutcomes.{Lists-more, Too-many}
-use Rattle.mining.specs.SurveyMined.{Can-mine, Mined}
+use Rattle.survey_patterns.specs.SurveyMined.{Can-mine, Mined}
 
 -- the settings and the survey are accepted
 pub record Accepted-call (bs : List ℕ) (s l : ℕ) : Type 0 where
@@ -57,16 +55,13 @@ abbrev pub Writes : (bytes : List ℕ) (s l : ℕ) (out : List ℕ) → Catalogu
 Writes bs s l o r z = (es : List Entry) × Catalogue (drawings-of bs) s l es × Entries-written (ltb (length o) (42 * length es)) es r o z
 
 -- THE TABLES AT HAND
-pub can-mine :
-    {bs labels rank alphabet cells seen list : List ℕ} {n s l : ℕ} → Accepted-call bs s l → Tables bs labels → Ranks (drawings-of bs) rank alphabet n
-    → Zeroed cells → length cells ≡ places-size → length seen ≡ places-size → length list ≡ candidates-size
-    → Can-mine bs labels rank alphabet (record { labels = n; threshold = s; limit = l }) cells seen list
-can-mine a t o z c e h =
+pub tables-ready :
+    {bs labels rank alphabet : List ℕ} {n s l : ℕ} → Accepted-call bs s l → Tables bs labels → Ranks (drawings-of bs) rank alphabet n
+    → Can-mine bs labels rank alphabet (record { labels = n; threshold = s; limit = l })
+tables-ready a t o =
     record {
       set-up = record { prepared = record { accepted = a .accepted; tables = t; ranks = o }; one = a .one; most = a .most; small = a .small };
       some = a .some;
-      blank = record { zeroed = z; sized = record { cells-size = c; seen-size = e } };
-      list-size = h;
     }
 
 -- ALL ENTRIES have their bytes

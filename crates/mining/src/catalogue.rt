@@ -1,11 +1,10 @@
 // The catalogue of a survey: every pattern that enough drawings contain, with its least code and its support.
-use crate::mine::mine;
 use candidates::choose::CANDIDATES;
 use checks::survey::check_survey;
+use embeddings::rows::KEPT;
 use growing::grow::Growth;
 use growing::grow::Settings;
 use listing::level::ENDS;
-use listing::rows::KEPT;
 use marking::cells::PLACES;
 use records::bytes::clear;
 use records::catalogued::Catalogued;
@@ -13,16 +12,50 @@ use records::entry::Entry;
 use records::refusal::Refusal;
 use records::survey::Survey;
 use records::survey::SurveyChecked;
+use survey_patterns::mine::mine;
 use surveys::labels::TABLES;
 use surveys::labels::fill_labels;
 use surveys::ranks::ALPHABET;
 use surveys::ranks::LABELS;
 use surveys::ranks::rank_labels;
-ghost use Prim.Native.Nat.{_<_};
+ghost use Rattle.survey_patterns.specs.SurveyMined.{Can-mine, Mined};
 ghost use Rattle.mining.specs.CatalogueSays.{Catalogue-says};
 ghost use Rattle.mining.specs.WriteLaws.{Accepted-call, Writes};
 
-// Writes the catalogue of an accepted survey. The tables stand here and are lent on; there is no heap.
+// Writes an entry for every pattern that enough drawings contain. The arrays of the search stand here and are lent on; there is
+// no heap.
+fn write_patterns(
+    survey: &[u8],
+    labels: &[u32; TABLES],
+    rank: &[u16; LABELS],
+    alphabet: &[u32; ALPHABET],
+    settings: Settings,
+    output: &mut [u8],
+) -> Growth
+    requires { ⌜ Can-mine (now survey) (now labels) (now rank) (now alphabet) settings ⌝ }
+    ensures { λ r. ⌜ Mined (now (survey .entry)) settings (now (output .entry)) r (now (output .exit)) ⌝ }
+{
+    let mut cells = [0; PLACES];
+    let mut seen = [0; PLACES];
+    let mut list = [0; CANDIDATES];
+    let mut kept = [0; KEPT];
+    let mut ends = [0; ENDS];
+    mine(
+        survey,
+        labels,
+        rank,
+        alphabet,
+        settings,
+        &mut cells,
+        &mut seen,
+        &mut list,
+        &mut kept,
+        &mut ends,
+        output,
+    )
+}
+
+// Writes the catalogue of an accepted survey. Its tables stand here.
 fn write_accepted(survey: &[u8], threshold: usize, limit: usize, output: &mut [u8]) -> Catalogued
     requires { ⌜ Accepted-call (now survey) threshold limit ⌝ }
     ensures { λ r. ⌜ Writes (now (survey .entry)) threshold limit (now (output .entry)) r (now (output .exit)) ⌝ }
@@ -37,25 +70,7 @@ fn write_accepted(survey: &[u8], threshold: usize, limit: usize, output: &mut [u
         threshold,
         limit,
     };
-    let mut cells = [0; PLACES];
-    let mut seen = [0; PLACES];
-    let mut list = [0; CANDIDATES];
-    let mut kept = [0; KEPT];
-    let mut ends = [0; ENDS];
-    let grown = mine(
-        survey,
-        &labels,
-        &rank,
-        &alphabet,
-        settings,
-        &mut cells,
-        &mut seen,
-        &mut list,
-        &mut kept,
-        &mut ends,
-        output,
-    );
-    match grown {
+    match write_patterns(survey, &labels, &rank, &alphabet, settings, output) {
         Growth::To(entries) => Catalogued::Entries(entries),
         Growth::Full => {
             clear(output);

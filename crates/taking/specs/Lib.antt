@@ -1,2 +1,4 @@
 -- Definitions.
 pub mod Taking
+-- Laws over them.
+pub mod TakingLaws

@@ -1,7 +1,9 @@
 -- Taking a candidate up: what it asks, and what becomes of it. Assumes nothing: these are definitions.
 use mathlib.Core.Path.{_≡_}
+use mathlib.Core.Bool.{Bool, true, false}
 use mathlib.Core.List.{List}
 use Prim.Native.Nat.{ℕ, _+_, _*_, _/_, _^_, _≤_, _<_}
+use lib.Dec.{eqb}
 use lib.ListN.{length}
 use Rattle.laws.specs.PutRecords.{put-record}
 use Rattle.codes.specs.Code.{Rec, recs-in, decoded, Least}
@@ -39,3 +41,33 @@ abbrev pub Candidate-taken : (γ : List Rec) (cell count : ℕ) → (out : List 
 Candidate-taken γ cell count out Passed z = Not-least γ out z
 Candidate-taken γ cell count out Full z = No-room γ count out z
 Candidate-taken γ cell count out Written z = Entry-put γ cell count out z
+
+-- THAT WAS ALL, unless its entry is written and it is smaller than the limit
+abbrev pub over-of : (size limit : ℕ) → Taken → Bool
+over-of size limit Passed = true
+over-of size limit Full = true
+over-of size limit Written = eqb size limit
+
+abbrev pub full-of : Taken → Bool
+full-of Passed = false
+full-of Full = true
+full-of Written = false
+
+-- how many entries stand in the output then
+abbrev pub count-of : (count : ℕ) → Taken → ℕ
+count-of count Passed = count
+count-of count Full = count
+count-of count Written = count + 1
+
+pub record Taken-on (γ : List Rec) (cell limit count : ℕ) (out : List ℕ) (over full : Bool) (more : ℕ) (out-now : List ℕ) : Type 0 where
+  pub taken : Taken
+  pub told : Candidate-taken γ cell count out taken out-now
+  pub over-is : over ≡ over-of (length γ) limit taken
+  pub full-is : full ≡ full-of taken
+  pub count-is : more ≡ count-of count taken
+
+-- its entry is written, and it is smaller
+pub record Goes-on (γ : List Rec) (cell limit count : ℕ) (out : List ℕ) (more : ℕ) (out-now : List ℕ) : Type 0 where
+  pub put : Entry-put γ cell count out out-now
+  pub smaller : length γ ≡ limit → ⊥
+  pub one-more : more ≡ count + 1

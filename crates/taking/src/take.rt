@@ -5,7 +5,7 @@ use marking::cells::ONE_MORE;
 use records::code::Code;
 use records::entry::Entry;
 ghost use Rattle.codes.specs.Code.{recs-in};
-ghost use Rattle.taking.specs.Taking.{Can-take-candidate, Candidate-taken};
+ghost use Rattle.taking.specs.Taking.{Can-take-candidate, Candidate-taken, Taken-on};
 
 // What becomes of a candidate: its code is not the least, its entry does not fit, or its entry is written.
 pub enum Taken {
@@ -14,8 +14,15 @@ pub enum Taken {
     Written,
 }
 
+// A candidate after it was taken up: whether that was all, whether its entry did not fit, and how many entries stand in the output.
+pub struct Step {
+    pub over: bool,
+    pub full: bool,
+    pub count: usize,
+}
+
 // Writes the entry of a candidate, of so many cables and devices, whose code is the least.
-pub fn take_up(
+fn take_up(
     code: &[u8; Code::BYTES],
     cables: usize,
     devices: usize,
@@ -35,4 +42,37 @@ pub fn take_up(
     let support = (cell / ONE_MORE) as usize;
     put_entry(code, Entry::new(cables, support), count, output);
     Taken::Written
+}
+
+// Takes a candidate up. It goes on if its entry is written and it is smaller than the limit.
+pub fn take_on(
+    code: &[u8; Code::BYTES],
+    cables: usize,
+    devices: usize,
+    cell: u64,
+    limit: usize,
+    output: &mut [u8],
+    count: usize,
+) -> Step
+    requires { ⌜ Can-take-candidate (now code) cables devices cell (now output) count ⌝ }
+    ensures { λ r. ⌜ Taken-on (recs-in cables (now (code .entry))) cell limit count (now (output .entry))
+        (r .over) (r .full) (r .count) (now (output .exit)) ⌝ }
+{
+    match take_up(code, cables, devices, cell, output, count) {
+        Taken::Passed => Step {
+            over: true,
+            full: false,
+            count,
+        },
+        Taken::Full => Step {
+            over: true,
+            full: true,
+            count,
+        },
+        Taken::Written => Step {
+            over: cables == limit,
+            full: false,
+            count: count + 1,
+        },
+    }
 }

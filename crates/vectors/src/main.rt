@@ -1,8 +1,5 @@
 // Vectors: makes the calls of the library that standard input lists, and prints for each what it answers and leaves in the
 // lent bytes. The list and what has to be printed are made by separate code, in tests/differential.
-mod bytes; // bytes.rt: bytes and numbers at a place
-mod print; // print.rt: an answer and bytes as text
-mod calls; // calls.rt: the calls of the library
 mod list; // list.rt: the list of calls
 
 use crate::list::run_all;

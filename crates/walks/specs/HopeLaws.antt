@@ -14,7 +14,24 @@ use Rattle.laws.specs.Lists.{snoc, snoc-length, getD-default}
 use Rattle.laws.specs.Rows.{row, rows, rows-length, rows-at}
 use Rattle.graphs.specs.Graph.{Pattern}
 use Rattle.graphs.specs.Patterns.{pattern-from-test}
-use Rattle.codes.specs.Code.{Rec, fresh, rec-in, recs-in, rows-refusal, decoded, kinds-before, Least}
+use Rattle.codes.specs.Code.{
+  Rec,
+  Reading,
+  begun,
+  fresh,
+  stepped,
+  rec-in,
+  recs-in,
+  rows-refusal,
+  read-rows,
+  decoded,
+  kinds-before,
+  Least,
+}
+use Rattle.codes.specs.Step.{Step, steps-back, steps-forward}
+use Rattle.codes.specs.Reading.{Invariant, invariant-begun}
+use Rattle.codes.specs.ReadRows.{First-row, begun-is, begun-from-test, rows-cons, rows-divided, rows-invariant, step-from-test}
+use Rattle.codes.specs.LaterRows.{later-rows}
 use Rattle.codes.specs.CodeOrder.{kinds-order}
 use Rattle.codes.specs.CodeBytes.{recs-in-length}
 use Rattle.codes.specs.Greedy.{Greedy}
@@ -113,7 +130,7 @@ split-at [] t z h = absurd (not-suc-le-zero h)
 split-at (x ∷ xs) zero z h = refl
 split-at {A} (x ∷ xs) (suc t) z h = ap (λ (l : List A). x ∷ l) (split-at xs t z (le-of-suc-le-suc h))
 
-record-there : (code : List ℕ) (m t : ℕ) (z : Rec) → t < m → getD (recs-in m code) t z ≡ record-of code t
+pub record-there : (code : List ℕ) (m t : ℕ) (z : Rec) → t < m → getD (recs-in m code) t z ≡ record-of code t
 unfolding recs-in
 record-there code m t z h =
     getD-default (map rec-in (rows 5 m code)) t z (rec-in []) (rw (recs-in-length m code) h)
@@ -133,7 +150,8 @@ snoc-same (a ∷ xs) (b ∷ ys) x y e =
     let t = snoc-same xs ys x y (ap (drop 1) e) in
     (ap₂ {C = List Rec} (λ z l. z ∷ l) (ap (λ (l : List Rec). getD l 0 a) e) (t .0), t .1)
 
-module _ {code : List ℕ} {m : ℕ} {e : Rec} (a : Can-look code m e) where
+-- A CODE OF SOME RECORDS γ AND THE RECORD e
+module _ (e : Rec) where
   -- THE WHOLE CODE, by its first record
   whole-hopeless :
       (γ : List Rec) → rows-refusal fresh (snoc γ e) ≡ 0 → Pattern (decoded (snoc γ e)) → (r : Rec) (rs : List Rec) → snoc γ e ≡ r ∷ rs
@@ -162,6 +180,61 @@ module _ {code : List ℕ} {m : ℕ} {e : Rec} (a : Can-look code m e) where
           (Rattle.codes.specs.Hopeless.own kinds-before kinds-order r rs ok′ p′)) (sym is)
           (own-node kinds-before kinds-order r rs ok′ p′))
 
+  -- OVERLOOKED at record t
+  pub at-hopeless :
+      (xs : List Rec) (t : ℕ) (s : Rec) → rows-refusal fresh (snoc xs e) ≡ 0 → Pattern (decoded (snoc xs e)) → 1 ≤ t → t < length xs → getD xs t s ≡ s
+      → s .i < s .j → Overlooks kinds-before s e → Least (decoded (snoc xs e)) (snoc xs e) → ⊥
+  at-hopeless [] t s ok p one h q up v l = not-suc-le-zero h
+  at-hopeless (r ∷ rs) zero s ok p one h q up v l = not-suc-le-zero one
+  at-hopeless (r ∷ rs) (suc t) s ok p one h q up v l =
+      sibling-hopeless kinds-before kinds-order r (take t rs) s (drop (suc t) rs) e (subst (λ (w : List Rec). rows-refusal fresh w ≡ 0) is ok)
+      (subst (λ (w : List Rec). Pattern (decoded w)) is p) up v (subst (λ (w : List Rec). Least (decoded w) w) is l)
+    where
+      is : snoc (r ∷ rs) e ≡ r ∷ take t rs ++ s ∷ snoc (drop (suc t) rs) e
+      is =
+          ap (λ (w : List Rec). r ∷ snoc w e) (split-at rs t s (le-of-suc-le-suc h) ∙ ap (λ (y : Rec). take t rs ++ y ∷ drop (suc t) rs) q)
+          ∙ ap (λ (w : List Rec). r ∷ w) (append-assoc (take t rs) (s ∷ drop (suc t) rs) (e ∷ []))
+
+  -- a forward record from device 0 has the first kind
+  first-kind : (r : Rec) (rs : List Rec) → rows-refusal fresh (snoc (r ∷ rs) e) ≡ 0 → e .i < e .j → e .i ≡ r .i → e .ki ≡ r .ki
+  unfolding read-rows
+  first-kind r rs ok up same = go (step-from-test (read-rows fresh (r ∷ rs)) v e (last .step) (last .kinds))
+    where
+      split : (rows-refusal fresh (r ∷ rs) ≡ 0) × (rows-refusal (read-rows fresh (r ∷ rs)) (e ∷ []) ≡ 0)
+      split = rows-divided fresh (r ∷ rs) (e ∷ []) ok
+
+      v : Invariant (read-rows fresh (r ∷ rs))
+      v = rows-invariant r rs (split .0)
+
+      last : First-row (read-rows fresh (r ∷ rs)) e []
+      last = rows-cons (read-rows fresh (r ∷ rs)) e [] (split .1)
+
+      start : First-row fresh r rs
+      start = rows-cons fresh r rs (split .0)
+
+      ends : (r .i ≡ 0) × (r .j ≡ 1)
+      ends = begun-from-test r (start .step)
+
+      kept : getD (read-rows (stepped fresh r) rs .kinds) 0 256 ≡ r .ki
+      kept =
+          subst (λ (x : Reading). rows-refusal x rs ≡ 0 → getD (read-rows x rs .kinds) 0 256 ≡ r .ki) (sym (begun-is r))
+          (λ z. later-rows (begun r) (invariant-begun r (ends .0) (ends .1)) rs z .kinds 0 (omega arith)) (start .rest)
+
+      go : Step (read-rows fresh (r ∷ rs)) e → e .ki ≡ r .ki
+      go (steps-back b y z) = absurd (omega (arith, b .down))
+      go (steps-forward o j h k) =
+          sym k ∙ ap (λ (i : ℕ). getD (read-rows fresh (r ∷ rs) .kinds) i 256) (same ∙ ends .0) ∙ kept
+
+  -- OVERLOOKED at the first record
+  pub first-record-hopeless :
+      (γ : List Rec) (s : Rec) → rows-refusal fresh (snoc γ e) ≡ 0 → Pattern (decoded (snoc γ e)) → 0 < length γ → getD γ 0 s ≡ s → e .i < e .j
+      → e .i ≡ s .i → kinds-before (relabelled s (e .c) (e .kj)) s ≡ true → Least (decoded (snoc γ e)) (snoc γ e) → ⊥
+  unfolding kinds-before
+  first-record-hopeless [] s ok p some q up same earlier l = not-suc-le-zero some
+  first-record-hopeless (r ∷ rs) s ok p some q up same earlier l =
+      whole-hopeless (r ∷ rs) ok p r (snoc rs e) refl .0 (rw (first-kind r rs ok up (same ∙ ap (λ (x : Rec). x .i) (sym q)), q) earlier) l
+
+module _ {code : List ℕ} {m : ℕ} {e : Rec} (a : Can-look code m e) where
   pattern : Pattern (decoded (snoc (recs-in m code) e))
   pattern = pattern-from-test (decoded (snoc (recs-in m code) e)) (a .drawn)
 
@@ -170,7 +243,7 @@ module _ {code : List ℕ} {m : ℕ} {e : Rec} (a : Can-look code m e) where
   unfolding kinds-before recs-in rows
   lone-hopeless none h =
       let is : snoc (recs-in m code) e ≡ e ∷ [] = ap (λ (k : ℕ). snoc (recs-in k code) e) none in
-      whole-hopeless (recs-in m code) (a .accepted) pattern e [] is .1 (rw (lt-ltb (e .kj) (e .ki) h))
+      whole-hopeless e (recs-in m code) (a .accepted) pattern e [] is .1 (rw (lt-ltb (e .kj) (e .ki) h))
 
   pub lone-look : m ≡ 0 → Hopeless-if code m e (ltb (e .kj) (e .ki))
   lone-look none =
@@ -191,33 +264,18 @@ module _ {code : List ℕ} {m : ℕ} {e : Rec} (a : Can-look code m e) where
     pub before-hopeless :
         kinds-before (begins-with (e .ki) (e .c) (e .kj)) (record-of code 0) ≡ true → Least (decoded (snoc (recs-in m code) e))
         (snoc (recs-in m code) e) → ⊥
-    before-hopeless = whole-hopeless (recs-in m code) (a .accepted) pattern (record-of code 0) (begins .0) (begins .1) .0
+    before-hopeless = whole-hopeless e (recs-in m code) (a .accepted) pattern (record-of code 0) (begins .0) (begins .1) .0
 
     pub against-hopeless :
         kinds-before (begins-with (e .kj) (e .c) (e .ki)) (record-of code 0) ≡ true → Least (decoded (snoc (recs-in m code) e))
         (snoc (recs-in m code) e) → ⊥
-    against-hopeless = whole-hopeless (recs-in m code) (a .accepted) pattern (record-of code 0) (begins .0) (begins .1) .1
-
-  -- OVERLOOKED at record t
-  at-hopeless :
-      (xs : List Rec) (t : ℕ) (s : Rec) → rows-refusal fresh (snoc xs e) ≡ 0 → Pattern (decoded (snoc xs e)) → 1 ≤ t → t < length xs → getD xs t s ≡ s
-      → s .i < s .j → Overlooks kinds-before s e → Least (decoded (snoc xs e)) (snoc xs e) → ⊥
-  at-hopeless [] t s ok p one h q up v l = not-suc-le-zero h
-  at-hopeless (r ∷ rs) zero s ok p one h q up v l = not-suc-le-zero one
-  at-hopeless (r ∷ rs) (suc t) s ok p one h q up v l =
-      sibling-hopeless kinds-before kinds-order r (take t rs) s (drop (suc t) rs) e (subst (λ (w : List Rec). rows-refusal fresh w ≡ 0) is ok)
-      (subst (λ (w : List Rec). Pattern (decoded w)) is p) up v (subst (λ (w : List Rec). Least (decoded w) w) is l)
-    where
-      is : snoc (r ∷ rs) e ≡ r ∷ take t rs ++ s ∷ snoc (drop (suc t) rs) e
-      is =
-          ap (λ (w : List Rec). r ∷ snoc w e) (split-at rs t s (le-of-suc-le-suc h) ∙ ap (λ (y : Rec). take t rs ++ y ∷ drop (suc t) rs) q)
-          ∙ ap (λ (w : List Rec). r ∷ w) (append-assoc (take t rs) (s ∷ drop (suc t) rs) (e ∷ []))
+    against-hopeless = whole-hopeless e (recs-in m code) (a .accepted) pattern (record-of code 0) (begins .0) (begins .1) .1
 
   found-hopeless :
       (b k : ℕ) (o : Overlooked-at code m b (e .c) k) → Overlooks kinds-before (record-of code (o .t)) e
       → Least (decoded (snoc (recs-in m code) e)) (snoc (recs-in m code) e) → ⊥
   found-hopeless b k o v =
-      at-hopeless (recs-in m code) (o .t) (record-of code (o .t)) (a .accepted) pattern (o .some) (rw (recs-in-length m code) (o .below))
+      at-hopeless e (recs-in m code) (o .t) (record-of code (o .t)) (a .accepted) pattern (o .some) (rw (recs-in-length m code) (o .below))
       (record-there code m (o .t) (record-of code (o .t)) (o .below)) (o .by .forward) v
 
   pub edge-hopeless : (r : Bool) → e .i < e .j → Decides r (Overlooked-at code m (e .i) (e .c) (e .kj)) → Hopeless-if code m e r

@@ -17,6 +17,7 @@ pub mod SlotsMade
 pub mod CountSteps
 pub mod FirstPlaces
 pub mod Hopes
+pub mod Floored
 pub mod Kinds
 pub mod Plans
 pub mod Visits
@@ -48,6 +49,7 @@ pub mod FirstPlaceLaws
 pub mod HopeLaws
 pub mod KindLaws
 pub mod PlanLaws
+pub mod FloorLaws
 pub mod SeeLaws
 pub mod PlanStepLaws
 pub mod VisitWayLaws

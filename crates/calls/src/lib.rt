@@ -1,0 +1,2 @@
+// Calls of the library, made and printed, for the program `vectors`. Its functions ask nothing of their callers.
+pub mod run; // run.rt: a call by its settings

@@ -1,0 +1,58 @@
+// A call by its settings (which call, s, L, how many bytes are lent: numbers of two bytes), with what it answers and leaves in
+// the lent bytes printed.
+use drawing_calls::ask::ask;
+use drawing_calls::write::write_one;
+use survey_calls::catalogue::write_entries;
+use survey_calls::fetch::fetch_listed;
+use transcript::answer::Answer;
+use transcript::bytes::number;
+use transcript::call::FETCH;
+use transcript::call::WRITE_CATALOGUE;
+use transcript::print::print_answer;
+use transcript::print::print_bytes;
+
+// As many bytes as a call may be lent.
+const ROOM: usize = 16384;
+
+// What every lent byte holds before a call.
+const LENT: u8 = 238;
+
+// The calls that are lent output.
+fn write(settings: &[u8], first: &[u8], second: &[u8], output: &mut [u8]) -> Answer {
+    let call = number(settings, 0);
+    if call < WRITE_CATALOGUE {
+        write_one(call, first, second, output)
+    } else {
+        write_entries(
+            call,
+            first,
+            number(settings, 2),
+            number(settings, 4),
+            output,
+        )
+    }
+}
+
+// Makes a call that is lent output, and prints the answer and the lent bytes; nothing where so many are not there.
+fn run_lent(settings: &[u8], name: &[u8], first: &[u8], second: &[u8], output: &mut [u8]) {
+    let lent = number(settings, 6) as usize;
+    if lent <= output.len() {
+        let answer = write(settings, first, second, &mut output[..lent]);
+        print_answer(name, answer);
+        print_bytes(&output[..lent]);
+    }
+}
+
+// The second argument of the reader's call is the numbers of three drawings.
+pub fn run_call(settings: &[u8], name: &[u8], first: &[u8], second: &[u8]) {
+    let call = number(settings, 0);
+    if call < FETCH {
+        print_answer(name, ask(call, first, second));
+    } else if call == FETCH {
+        io::write_all(1, name);
+        fetch_listed(first, second);
+    } else {
+        let mut output = [LENT; ROOM];
+        run_lent(settings, name, first, second, &mut output);
+    }
+}

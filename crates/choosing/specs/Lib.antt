@@ -1,0 +1,4 @@
+-- Definitions.
+pub mod NextChosen
+-- Laws over them.
+pub mod NextChosenLaws

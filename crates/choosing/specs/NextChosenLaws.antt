@@ -1,0 +1,51 @@
+-- What was counted can be chosen from, and what is chosen are the candidates of the code. The one place where what is counted meets what
+-- is chosen. Rests on PreparedLaws. Assumes nothing.
+use mathlib.Core.List.{List}
+use Prim.Native.Nat.{ℕ, _≤_}
+use native.Mathlib.Omega.{arith}
+use lib.ListN.{length}
+use Rattle.codes.specs.Code.{Rec}
+use Rattle.growth.specs.Floors.{Grown-above}
+use Rattle.walks.specs.LabelMarks.{drawings-of}
+use Rattle.walks.specs.Prepared.{Readied, Counted-cells, Counted-above}
+use Rattle.walks.specs.PreparedLaws.{drawings-counted, prepared-few}
+use Rattle.walks.specs.Choices.{Of-sets, Can-choose, Chose}
+use Rattle.choosing.specs.NextChosen.{Room-to-choose, Next-chosen}
+
+module _ {survey labels rank : List ℕ} {n s : ℕ} (r : Readied survey labels rank n) {list : List ℕ} {base : ℕ} (room : Room-to-choose s list base)
+    (γ : List Rec) {cells seen : List ℕ} {found : ℕ} (above : Counted-above (drawings-of survey) γ rank n cells seen found) where
+  c : Counted-cells (drawings-of survey) (Grown-above γ (above .floors)) rank n cells seen found
+  c = above .counted
+
+  sets-few : (p : ℕ) → length (c .sets p) ≤ 32
+  sets-few p = omega (arith, c .counting .size p, drawings-counted survey, prepared-few (r .prepared))
+
+  of-sets : Of-sets (c .sets) cells
+  of-sets = record { few = sets-few; cell = c .cell }
+
+  pub counted-chooses : Can-choose cells seen found s list base
+  counted-chooses =
+      record {
+        sets = c .sets;
+        of-sets = of-sets;
+        places = c .places;
+        sized = c .sized;
+        one = room .one;
+        list-size = room .list-size;
+        room = room .room;
+      }
+
+  pub counted-chosen : {cells₂ list₂ : List ℕ} {top : ℕ} → Chose cells s list base cells₂ seen list₂ top
+      → Next-chosen (drawings-of survey) γ rank n s cells₂ seen list base list₂ top
+  counted-chosen t =
+      record {
+        floors = above .floors;
+        laid = above .laid;
+        sets = c .sets;
+        counting = c .counting;
+        chosen = t .chosen (c .sets) of-sets n (r .prepared .ranks .most);
+        low = t .low;
+        high = t .high;
+        kept = t .kept;
+        blank = t .blank;
+      }

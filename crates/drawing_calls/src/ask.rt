@@ -1,0 +1,59 @@
+// The calls that are lent no output, with their answers as numbers: yes, before and after are 1, 1 and 2, as the C interface
+// has them.
+use checks::drawing::check_drawing;
+use checks::survey::check_survey;
+use coding::answer::Compared;
+use coding::answer::Verdict;
+use coding::check::check_code;
+use coding::compare::compare;
+use coding::least::is_least;
+use matching::answer::Sameness;
+use matching::same::same;
+use transcript::answer::Answer;
+use transcript::answer::NO_CALL;
+use transcript::answer::checked;
+use transcript::answer::refused;
+use transcript::answer::surveyed;
+use transcript::call::CHECK_CODE;
+use transcript::call::CHECK_DRAWING;
+use transcript::call::CHECK_SURVEY;
+use transcript::call::COMPARE;
+use transcript::call::IS_LEAST;
+use transcript::call::SAME;
+
+fn verdict(answer: Verdict) -> Answer {
+    match answer {
+        Verdict::No => Answer(0, 0, 0),
+        Verdict::Yes => Answer(0, 0, 1),
+        Verdict::Refused(reason) => refused(reason, 0),
+    }
+}
+
+fn compared(answer: Compared) -> Answer {
+    match answer {
+        Compared::Equal => Answer(0, 0, 0),
+        Compared::Before => Answer(0, 0, 1),
+        Compared::After => Answer(0, 0, 2),
+        Compared::Refused(reason) => refused(reason, 0),
+    }
+}
+
+fn sameness(answer: Sameness) -> Answer {
+    match answer {
+        Sameness::No => Answer(0, 0, 0),
+        Sameness::Yes => Answer(0, 0, 1),
+        Sameness::Refused(reason) => refused(reason, 0),
+    }
+}
+
+pub fn ask(call: u32, first: &[u8], second: &[u8]) -> Answer {
+    match call {
+        CHECK_DRAWING => checked(check_drawing(first)),
+        CHECK_SURVEY => surveyed(check_survey(first)),
+        CHECK_CODE => checked(check_code(first)),
+        IS_LEAST => verdict(is_least(first)),
+        COMPARE => compared(compare(first, second)),
+        SAME => sameness(same(first, second)),
+        _ => Answer(NO_CALL, 0, 0),
+    }
+}

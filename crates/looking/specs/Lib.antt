@@ -1,0 +1,4 @@
+-- Definitions.
+pub mod Looking
+-- Laws over them.
+pub mod LookingLaws

@@ -1,0 +1,4 @@
+-- Definitions.
+pub mod SurveyMined
+-- Laws over them.
+pub mod SurveyMinedLaws

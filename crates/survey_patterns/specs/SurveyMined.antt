@@ -1,0 +1,67 @@
+-- Mining a survey, kind by kind of device 0: what it asks, and what stands in the output meanwhile and in the end. Assumes
+-- nothing: these are definitions.
+use mathlib.Core.Path.{_≡_}
+use mathlib.Core.List.{List, []}
+use Prim.Native.Nat.{ℕ, _+_, _*_, _≤_}
+use lib.ListN.{length}
+use Rattle.codes.specs.Code.{Rec, kinds-before}
+use Rattle.codes.specs.CodeOrder.{kinds-order}
+use Rattle.growth.specs.Growth.{Listed, Listed-by}
+use Rattle.growth.specs.Frequent.{Frequent}
+use Rattle.growth.specs.Firsts.{Firsts}
+use Rattle.growth.specs.Sizes.{candidates-size}
+use Rattle.growing.specs.declared.grow.Growth.{Growth}
+use Rattle.growing.specs.declared.grow.Growth.the-variants.{To, Full}
+use Rattle.growing.specs.declared.grow.Settings.{Settings}
+use Rattle.walks.specs.LabelMarks.{drawings-of}
+use Rattle.walks.specs.Counts.{Blank}
+use Rattle.walks.specs.EmbeddingLists.{Lists-sized}
+use Rattle.growing.specs.GrowthOutcomes.{Set-up, Lists, Outcome}
+
+-- WHAT IT ASKS: the tables of an accepted survey, and settings within their bounds
+pub record Can-mine (survey labels rank alphabet : List ℕ) (g : Settings) : Type 0 where
+  pub set-up : Set-up survey labels rank alphabet g
+  pub some : 1 ≤ g .limit
+
+-- ALL FREQUENT LEAST CODES are listed, or they do not fit
+abbrev pub Mined : (survey : List ℕ) (g : Settings) (out : List ℕ) → Growth → (out-now : List ℕ) → Type 0
+Mined survey g out r z =
+    Outcome (drawings-of survey) (g .threshold) (g .limit)
+    (Listed kinds-before kinds-order (Frequent kinds-before (drawings-of survey) (g .threshold)) (g .limit) []) [] out z r
+
+-- MEANWHILE: those whose device 0 has a kind below k
+pub record Kinds-done (survey : List ℕ) (g : Settings) (out : List ℕ) (k : ℕ) (cells seen list out-now : List ℕ) (written : ℕ) : Type 0 where
+  pub low : k ≤ 256
+  pub blank : Blank cells seen
+  pub list-size : length list ≡ candidates-size
+  pub size : length out-now ≡ length out
+  pub room : 42 * written ≤ length out-now
+  pub firsts : List Rec
+  pub codes : List (List Rec)
+  pub first : Firsts (drawings-of survey) (g .threshold) k firsts
+  pub listed :
+      Listed-by kinds-before kinds-order (Frequent kinds-before (drawings-of survey) (g .threshold)) (g .limit) [] firsts codes
+  pub lists : Lists (drawings-of survey) codes out out-now written
+
+-- ONE KIND MORE: what it asks
+pub record Can-mine-kind
+    (survey labels rank alphabet : List ℕ) (g : Settings) (k : ℕ) (cells seen list kept ends out-now : List ℕ) (written : ℕ) : Type 0 where
+  pub can : Can-mine survey labels rank alphabet g
+  pub out : List ℕ
+  pub done : Kinds-done survey g out k cells seen list out-now written
+  pub sized : Lists-sized kept ends
+
+-- what it comes to: those of kind k are done too, or they do not fit
+abbrev pub After-kind : (survey : List ℕ) (g : Settings) (out : List ℕ) (k : ℕ) (cells seen list out-now : List ℕ) → Growth → Type 0
+After-kind survey g out k cells seen list out-now (To m) = Kinds-done survey g out (k + 1) cells seen list out-now m
+After-kind survey g out k cells seen list out-now Full = Mined survey g out Full out-now
+
+-- and what it leaves, whatever stood in the output at first
+pub record Kind-mined
+    (survey : List ℕ) (g : Settings) (k : ℕ) (cells seen list out : List ℕ) (written : ℕ) (r : Growth)
+    (cells-now seen-now list-now kept-now ends-now out-now : List ℕ) : Type 0 where
+  pub after :
+      (first : List ℕ) → Kinds-done survey g first k cells seen list out written
+      → After-kind survey g first k cells-now seen-now list-now out-now r
+  pub sized : Lists-sized kept-now ends-now
+  pub size : length out-now ≡ length out

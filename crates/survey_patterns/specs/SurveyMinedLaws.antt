@@ -1,0 +1,205 @@
+-- Mining a survey, kind by kind of device 0. Rests on Firsts and Growths. Assumes nothing.
+use mathlib.Core.Path.{_≡_, refl, sym, ap, _∙_, subst}
+use mathlib.Core.Bool.{Bool, true, false}
+use mathlib.Core.List.{List, [], _∷_, _++_, map}
+use Prim.Native.Nat.{ℕ, _+_, _≤_, _<_}
+use native.Mathlib.Numerals.{add-one}
+use native.Mathlib.Omega.{arith}
+use lib.ListN.{length, getD}
+use Rattle.laws.specs.Lists.{concat}
+use Rattle.graphs.specs.Drawing.{Drawing}
+use Rattle.codes.specs.Code.{Rec, fresh, rows-refusal, decoded, kinds-before, before-by}
+use Rattle.codes.specs.CodeOrder.{kinds-order, difference-decides}
+use Rattle.codes.specs.Greedy.{Greedy}
+use Rattle.codes.specs.ReadRows.{rows-nil}
+use Rattle.growth.specs.Catalogue.{all-bytes}
+use Rattle.growth.specs.Growth.{listed-none}
+use Rattle.growth.specs.Frequent.{Frequent}
+use Rattle.growth.specs.PlacedRecords.{alone}
+use Rattle.growth.specs.CountingExtensions.{First-of, Counting}
+use Rattle.growth.specs.ListedBy.{Chosen-places, Chosen-cells, place-in, records-at, chosen-places, listed-join}
+use Rattle.growth.specs.Firsts.{Firsts, firsts-none, firsts-skip, firsts-apart, firsts-next, firsts-listed}
+use Rattle.growth.specs.Walking.{Ahead-of}
+use Rattle.growth.specs.Sizes.{candidates-size}
+use Rattle.growing.specs.declared.grow.Growth.{Growth}
+use Rattle.growing.specs.declared.grow.Growth.the-variants.{To, Full}
+use Rattle.growing.specs.declared.grow.Settings.{Settings}
+use Rattle.walks.specs.LabelMarks.{drawings-of}
+use Rattle.walks.specs.Counts.{Blank}
+use Rattle.walks.specs.Prepared.{Counted-cells}
+use Rattle.walks.specs.PreparedLaws.{prepared-few, prepared-patterns}
+use Rattle.laws.specs.Parts.{part}
+use Rattle.walks.specs.Choices.{Of-sets, Can-choose, Chose}
+use Rattle.growing.specs.GrowthOutcomes.{Fit, Can-walk-candidates, Candidates-walked}
+use Rattle.walks.specs.Kinds.{Occurs}
+use Rattle.walks.specs.KindLaws.{no-first}
+use Rattle.survey_patterns.specs.SurveyMined.{Can-mine, Mined, Kinds-done, After-kind}
+
+-- WHAT IS COUNTED after no record
+fit-first :
+    {place : Rec → ℕ} {ds : List Drawing} {i : ℕ} {sets : ℕ → List Bool} (k : ℕ) (γ : List Rec) → γ ≡ []
+    → Counting place (First-of k) ds i sets → Counting place (Fit k [] γ) ds i sets
+fit-first k [] e c = c
+fit-first k (r ∷ rs) e c = absurd (omega (arith, ap (λ (x : List Rec). length x) e))
+
+-- a code of no records is greedy
+greedy-none : (γ : List Rec) → γ ≡ [] → Greedy kinds-before (decoded γ) [] γ
+unfolding Greedy
+greedy-none γ e = subst (λ (δ : List Rec). Greedy kinds-before (decoded δ) [] δ) (sym e) tt
+
+module _ {survey labels rank alphabet : List ℕ} {g : Settings} (a : Can-mine survey labels rank alphabet g) where
+  abbrev ds : List Drawing
+  ds = drawings-of survey
+
+  abbrev Wanted : List Rec → Type 0
+  Wanted = Frequent kinds-before (drawings-of survey) (g .threshold)
+
+  -- THE START: no kind yet
+  pub mine-starts :
+      {cells seen list : List ℕ} (out : List ℕ) → Blank cells seen → length list ≡ candidates-size → Kinds-done survey g out 0 cells seen list out 0
+  unfolding all-bytes concat
+  mine-starts out blank list-size =
+      record {
+        low = omega arith;
+        blank = blank;
+        list-size = list-size;
+        size = refl;
+        room = omega arith;
+        firsts = [];
+        codes = [];
+        first = firsts-none ds (g .threshold);
+        listed = listed-none kinds-before kinds-order Wanted (g .limit) [];
+        lists = record { count-is = refl; bytes = refl };
+      }
+
+  -- A KIND THAT DOES NOT OCCUR is passed over
+  pub mine-skips :
+      {out : List ℕ} {k : ℕ} {cells₁ seen₁ list₁ out₁ : List ℕ} {written : ℕ} {marks : List Bool} → k < 256 → Occurs survey marks
+      → getD marks k false ≡ false → Kinds-done survey g out k cells₁ seen₁ list₁ out₁ written
+      → Kinds-done survey g out (k + 1) cells₁ seen₁ list₁ out₁ written
+  mine-skips {k = k} low o none w =
+      record {
+        low = omega arith;
+        blank = w .blank;
+        list-size = w .list-size;
+        size = w .size;
+        room = w .room;
+        firsts = w .firsts;
+        codes = w .codes;
+        first = rw add-one (firsts-skip (a .set-up .one) (w .first) (no-first (a .set-up .prepared) o k none));
+        listed = w .listed;
+        lists = w .lists;
+      }
+
+  -- ONE KIND MORE
+  module _ {out : List ℕ} {k : ℕ} {cells₁ seen₁ list₁ out₁ : List ℕ} {written : ℕ} (w : Kinds-done survey g out k cells₁ seen₁ list₁ out₁ written)
+      {cells₂ seen₂ : List ℕ} {found : ℕ} (c : Counted-cells (drawings-of survey) (First-of k) rank (g .labels) cells₂ seen₂ found) where
+    sets-few : (p : ℕ) → length (c .sets p) ≤ 32
+    sets-few p = omega (arith, c .counting .size p, prepared-few (a .set-up .prepared))
+
+    of-sets : Of-sets (c .sets) cells₂
+    of-sets = record { few = sets-few; cell = c .cell }
+
+    pub mine-chooses : Can-choose cells₂ seen₂ found (g .threshold) list₁ 0
+    mine-chooses =
+        record {
+          sets = c .sets;
+          of-sets = of-sets;
+          places = c .places;
+          sized = c .sized;
+          one = a .set-up .one;
+          list-size = w .list-size;
+          room = omega arith;
+        }
+
+    module _ {cells₃ list₃ : List ℕ} {top : ℕ} (t : Chose cells₂ (g .threshold) list₁ 0 cells₃ seen₂ list₃ top) {γ : List Rec}
+        (n : γ ≡ []) where
+      chosen-cells : Chosen-cells (c .sets) (g .threshold) (g .labels) (part 0 top list₃)
+      chosen-cells = t .chosen (c .sets) of-sets (g .labels) (a .set-up .prepared .ranks .most)
+
+      chosen : Chosen-places (c .sets) (g .threshold) (g .labels) (map place-in (part 0 top list₃))
+      chosen = chosen-places (c .sets) (g .threshold) (g .labels) (part 0 top list₃) sets-few chosen-cells
+
+      abbrev news : List Rec
+      news = records-at (alone k) alphabet (g .labels) (map place-in (part 0 top list₃))
+
+      pub mine-walks : Can-walk-candidates survey labels rank alphabet g γ k cells₃ seen₂ list₃ 0 top out₁ written
+      mine-walks =
+          record {
+            set-up = a .set-up;
+            accepted = ap (rows-refusal fresh) n ∙ rows-nil fresh;
+            more = omega (arith, ap length n, a .some);
+            greedy = greedy-none γ n;
+            sets = c .sets;
+            floors = [];
+            counting = fit-first k γ n (c .counting);
+            chosen = chosen-cells;
+            low = t .low;
+            at-hand = record { blank = t .blank; list-size = t .kept .size; room = omega (arith, t .high, ap length n) };
+            out-room = w .room;
+          }
+
+      -- what is listed stands ahead of the codes that begin with this kind
+      ahead : Ahead-of kinds-before kinds-order (drawings-of survey) (g .threshold) (g .limit) (w .codes) []
+          (records-at (alone k) alphabet (g .labels) (map place-in (part 0 top list₃)))
+      ahead =
+          record {
+            done = record { rise = w .listed .rise; right = λ x m. let s = w .listed .sound x m in (s .0, s .1) };
+            earlier = λ e m x i.
+                let s = w .listed .sound x i .2 in
+                subst (λ (z : List Rec). before-by kinds-before z (e ∷ []) ≡ true) (sym (s .0 .is))
+                (difference-decides kinds-before kinds-order [] (s .0 .e) e (s .0 .more) []
+                (firsts-apart (a .set-up .one) (w .first) (prepared-patterns (a .set-up .prepared)) (a .set-up .prepared .ranks)
+                (c .counting) chosen (s .0 .e) e (s .1) m));
+          }
+
+      module _ {cells₄ seen₄ list₄ out₄ : List ℕ} where
+        went : {r : Growth} → Candidates-walked survey alphabet g k γ cells₄ seen₄ list₃ 0 top list₄ out₁ written r out₄
+            → Candidates-walked survey alphabet g k [] cells₄ seen₄ list₃ 0 top list₄ out₁ written r out₄
+        went {r} = subst (λ (δ : List Rec). Candidates-walked survey alphabet g k δ cells₄ seen₄ list₃ 0 top list₄ out₁ written r out₄) n
+
+        mine-full : Candidates-walked survey alphabet g k γ cells₄ seen₄ list₃ 0 top list₄ out₁ written Full out₄
+            → Mined survey g out Full out₄
+        mine-full v = went v .told (w .codes) out ahead (w .lists)
+
+        mine-next : {m : ℕ} → k < 256 → Candidates-walked survey alphabet g k γ cells₄ seen₄ list₃ 0 top list₄ out₁ written
+            (To m) out₄
+            → Kinds-done survey g out (k + 1) cells₄ seen₄ list₄ out₄ m
+        mine-next {m} low v =
+            let x = went v .told (w .codes) out ahead (w .lists) in
+            record {
+              low = omega arith;
+              blank = v .blank;
+              list-size = v .kept .size;
+              size = v .size ∙ w .size;
+              room = v .room;
+              firsts = w .firsts ++ news;
+              codes = w .codes ++ x .more;
+              first =
+                  rw add-one
+                  (firsts-next (a .set-up .one) (w .first) (prepared-patterns (a .set-up .prepared)) (a .set-up .prepared .ranks)
+                  (c .counting) chosen);
+              listed =
+                  listed-join kinds-before kinds-order Wanted (g .limit) [] (w .firsts) news (w .codes) (x .more)
+                  (firsts-apart (a .set-up .one) (w .first) (prepared-patterns (a .set-up .prepared)) (a .set-up .prepared .ranks)
+                  (c .counting) chosen) (w .listed) (x .which);
+              lists = x .lists;
+            }
+
+        -- either way
+        pub kind-after : (r : Growth) → k < 256 → Candidates-walked survey alphabet g k γ cells₄ seen₄ list₃ 0 top list₄ out₁ written r out₄
+            → After-kind survey g out k cells₄ seen₄ list₄ out₄ r
+        kind-after (To m) low v = mine-next low v
+        kind-after Full low v = mine-full v
+
+  -- THE END: all kinds
+  pub mine-ends : {out : List ℕ} {k : ℕ} {cells₁ seen₁ list₁ out₁ : List ℕ} {written : ℕ} → 256 ≤ k
+      → Kinds-done survey g out k cells₁ seen₁ list₁ out₁ written
+      → Mined survey g out (To written) out₁
+  mine-ends e w =
+      record {
+        more = w .codes;
+        which = firsts-listed (a .set-up .one) (w .first) (prepared-patterns (a .set-up .prepared)) e (g .limit) (w .codes) (w .listed);
+        lists = w .lists;
+        room = w .room;
+      }

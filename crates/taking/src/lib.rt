@@ -1,3 +1,3 @@
-// Taking a candidate of a catalogue up. Its function asks of its callers what `requires` says; the entries of the public crates ask
+// Taking a candidate of a catalogue up. Its functions ask of their callers what `requires` says; the entries of the public crates ask
 // nothing.
-pub mod take; // take.rt: a candidate tested, and its entry written
+pub mod take; // take.rt: a candidate tested, its entry written, and whether it goes on

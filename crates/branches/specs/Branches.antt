@@ -22,8 +22,8 @@ abbrev pub device-placed : (numbers path : List ℕ) → (q : ℕ) → ℕ
 device-placed numbers path q = getD numbers (getD path q 0) 0
 
 -- the place has a number, and that a device
-abbrev pub Placed : (numbers path : List ℕ) → (q : ℕ) → Type 0
-Placed numbers path q = (q < 10) × (getD path q 0 < 10) × (device-placed numbers path q < 10)
+abbrev pub On-path : (numbers path : List ℕ) → (q : ℕ) → Type 0
+On-path numbers path q = (q < 10) × (getD path q 0 < 10) × (device-placed numbers path q < 10)
 
 -- every place has
 pub record Places (numbers path : List ℕ) (count : ℕ) : Type 0 where

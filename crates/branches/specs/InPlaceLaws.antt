@@ -13,7 +13,7 @@ use Rattle.branches.specs.declared.branch.Displaced.{Displaced}
 use Rattle.branches.specs.Branches.{
   in-place,
   chorded,
-  Placed,
+  On-path,
   Places,
   Same-arrays,
   Number-given,
@@ -21,7 +21,7 @@ use Rattle.branches.specs.Branches.{
 }
 
 -- THE PLACES of the path have numbers and devices
-pub places-at : {numbers path : List ℕ} {count : ℕ} → Places numbers path count → (q : ℕ) → q < count → Placed numbers path q
+pub places-at : {numbers path : List ℕ} {count : ℕ} → Places numbers path count → (q : ℕ) → q < count → On-path numbers path q
 places-at p q h = (omega (arith, p .count-low), p .on-path q h, p .lands q h)
 
 pub bounds-places : (b : State) → Bounds b → Places (b .numbers) (b .path) (b .count)
@@ -62,7 +62,7 @@ module _ {numbers₀ numbers path₀ path : List ℕ} {used₀ used : List Bool}
   same-place count given low =
       λ x. in-place (same .numbers-same x) (same .used-same x) (same .path-same x) count given low
 
-  pub same-placed : (q : ℕ) → Placed numbers₀ path₀ q × (length used₀ ≡ 10) → Placed numbers path q × (length used ≡ 10)
+  pub same-placed : (q : ℕ) → On-path numbers₀ path₀ q × (length used₀ ≡ 10) → On-path numbers path q × (length used ≡ 10)
   same-placed q p = rw (same .numbers-same, same .used-same, same .path-same) p
 
   -- the next number is given to device w, behind place q

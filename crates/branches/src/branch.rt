@@ -4,7 +4,7 @@
 use records::drawing::Drawing;
 ghost use mathlib.Core.Path.{_≡_};
 ghost use Prim.Native.Nat.{_<_};
-ghost use Rattle.branches.specs.Branches.{device-placed, Placed, Number-given, Number-taken};
+ghost use Rattle.branches.specs.Branches.{device-placed, On-path, Number-given, Number-taken};
 
 // The device at place q of the path.
 pub fn device_at(
@@ -12,7 +12,7 @@ pub fn device_at(
     path: &[u8; Drawing::MOST_DEVICES],
     q: usize,
 ) -> usize
-    requires { ⌜ Placed (now numbers) (now path) q ⌝ }
+    requires { ⌜ On-path (now numbers) (now path) q ⌝ }
     ensures { λ r. ⌜ (r ≡ device-placed (now (numbers .entry)) (now (path .entry)) q) × (r < 10) ⌝ }
 {
     let number = path[q] as usize;

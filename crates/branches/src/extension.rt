@@ -10,7 +10,7 @@ ghost use mathlib.Core.List.{List};
 ghost use Prim.Native.Nat.{ℕ, _<_};
 ghost use lib.ListN.{length};
 ghost use Rattle.codes.specs.BranchState.{No-chord};
-ghost use Rattle.branches.specs.Branches.{in-place, Placed, Places};
+ghost use Rattle.branches.specs.Branches.{in-place, On-path, Places};
 ghost use Rattle.branches.specs.Extensions.{lesser-label, Chord-seen, First-chord, Least-edge, Extension-found};
 
 // A backward record to a place of the path, a forward one from a place of the path, each with its label, or nothing.
@@ -94,7 +94,7 @@ fn least_edge(
     path: &[u8; Drawing::MOST_DEVICES],
     q: usize,
 ) -> u32
-    requires { ⌜ Placed (now numbers) (now path) q × (length (now used) ≡ 10) ⌝ }
+    requires { ⌜ On-path (now numbers) (now path) q × (length (now used) ≡ 10) ⌝ }
     ensures { λ r. ⌜ ((count given low : ℕ) → Least-edge (now (table .entry))
         (in-place (now (numbers .entry)) (now (used .entry)) (now (path .entry)) count given low) q 10 r) ⌝ }
 {

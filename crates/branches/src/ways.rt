@@ -10,7 +10,7 @@ ghost use mathlib.Core.Path.{_≡_};
 ghost use Prim.Native.Nat.{ℕ};
 ghost use lib.ListN.{length};
 ghost use Rattle.codes.specs.Twins.{Twins-noted};
-ghost use Rattle.branches.specs.Branches.{in-place, Placed};
+ghost use Rattle.branches.specs.Branches.{in-place, On-path};
 ghost use Rattle.branches.specs.Ways.{Next-way};
 
 // The first device from `from` on that has no number and the label l at place q, and is not passed over; ten if there is none.
@@ -24,7 +24,7 @@ pub fn next_tie(
     l: u32,
     from: usize,
 ) -> usize
-    requires { ⌜ Placed (now numbers) (now path) q × (length (now used) ≡ 10) × Twins-noted (now table) (now twins) ⌝ }
+    requires { ⌜ On-path (now numbers) (now path) q × (length (now used) ≡ 10) × Twins-noted (now table) (now twins) ⌝ }
     ensures { λ r. ⌜ ((count given low : ℕ) → Next-way (now (table .entry))
         (in-place (now (numbers .entry)) (now (used .entry)) (now (path .entry)) count given low) (Extension.Edge q l) from r) ⌝ }
 {

@@ -5,7 +5,7 @@ use drawing_calls::write::write_one;
 use survey_calls::catalogue::write_entries;
 use survey_calls::fetch::fetch_listed;
 use transcript::answer::Answer;
-use transcript::bytes::number;
+use transcript::bytes::two_bytes;
 use transcript::call::FETCH;
 use transcript::call::WRITE_CATALOGUE;
 use transcript::print::print_answer;
@@ -19,15 +19,15 @@ const LENT: u8 = 238;
 
 // The calls that are lent output.
 fn write(settings: &[u8], first: &[u8], second: &[u8], output: &mut [u8]) -> Answer {
-    let call = number(settings, 0);
+    let call = two_bytes(settings, 0);
     if call < WRITE_CATALOGUE {
         write_one(call, first, second, output)
     } else {
         write_entries(
             call,
             first,
-            number(settings, 2),
-            number(settings, 4),
+            two_bytes(settings, 2),
+            two_bytes(settings, 4),
             output,
         )
     }
@@ -35,7 +35,7 @@ fn write(settings: &[u8], first: &[u8], second: &[u8], output: &mut [u8]) -> Ans
 
 // Makes a call that is lent output, and prints the answer and the lent bytes; nothing where so many are not there.
 fn run_lent(settings: &[u8], name: &[u8], first: &[u8], second: &[u8], output: &mut [u8]) {
-    let lent = number(settings, 6) as usize;
+    let lent = two_bytes(settings, 6) as usize;
     if lent <= output.len() {
         let answer = write(settings, first, second, &mut output[..lent]);
         print_answer(name, answer);
@@ -45,7 +45,7 @@ fn run_lent(settings: &[u8], name: &[u8], first: &[u8], second: &[u8], output: &
 
 // The second argument of the reader's call is the numbers of three drawings.
 pub fn run_call(settings: &[u8], name: &[u8], first: &[u8], second: &[u8]) {
-    let call = number(settings, 0);
+    let call = two_bytes(settings, 0);
     if call < FETCH {
         print_answer(name, ask(call, first, second));
     } else if call == FETCH {

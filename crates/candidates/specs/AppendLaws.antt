@@ -26,35 +26,35 @@ use Rattle.codes.specs.RecordPut.{Front-kept, Record-put}
 use Rattle.candidates.specs.HeldCode.{Kinds-held, Code-sized, Can-append, Appended}
 
 -- WHAT A RECORD DOES to the kinds of a code
-pub data Meets (γ : List Rec) (e : Rec) : Type 0 where
+pub data Device-met (γ : List Rec) (e : Rec) : Type 0 where
   meets-two :
-      read-rows fresh γ .kinds ≡ [] → e .i ≡ 0 → e .j ≡ 1 → read-rows fresh (snoc γ e) .kinds ≡ e .ki ∷ e .kj ∷ [] → Meets γ e
+      read-rows fresh γ .kinds ≡ [] → e .i ≡ 0 → e .j ≡ 1 → read-rows fresh (snoc γ e) .kinds ≡ e .ki ∷ e .kj ∷ [] → Device-met γ e
   meets-one :
       e .i < e .j → e .j ≡ length (read-rows fresh γ .kinds) → e .j ≤ 9 → getD (read-rows fresh γ .kinds) (e .i) 256 ≡ e .ki
-      → read-rows fresh (snoc γ e) .kinds ≡ snoc (read-rows fresh γ .kinds) (e .kj) → Meets γ e
-  meets-none : e .j < e .i → read-rows fresh (snoc γ e) .kinds ≡ read-rows fresh γ .kinds → Meets γ e
+      → read-rows fresh (snoc γ e) .kinds ≡ snoc (read-rows fresh γ .kinds) (e .kj) → Device-met γ e
+  meets-none : e .j < e .i → read-rows fresh (snoc γ e) .kinds ≡ read-rows fresh γ .kinds → Device-met γ e
 
 -- by the step that it is
 module _ (γ : List Rec) (e : Rec) where
-  step-meets : Invariant (read-rows fresh γ) → (s : Step (read-rows fresh γ) e) → read-rows fresh (snoc γ e) ≡ after s → Meets γ e
+  step-meets : Invariant (read-rows fresh γ) → (s : Step (read-rows fresh γ) e) → read-rows fresh (snoc γ e) ≡ after s → Device-met γ e
   step-meets v (steps-back o p q) is = meets-none (o .down) (ap (λ (x : Reading). x .kinds) is)
   step-meets v (steps-forward m p q k) is = meets-one (omega (arith, v .below (e .i) m)) p q k (ap (λ (x : Reading). x .kinds) is)
 
-first-meets : (e : Rec) → First-row (read-rows fresh []) e [] → Meets [] e
+first-meets : (e : Rec) → First-row (read-rows fresh []) e [] → Device-met [] e
 unfolding read-rows fresh
 first-meets e f =
     let ends = begun-from-test e (f .step) in
     meets-two refl (ends .0) (ends .1) (ap (λ (x : Reading). x .kinds) (begun-is e))
 
 row-meets : (γ : List Rec) (e : Rec) → rows-refusal fresh γ ≡ 0 → First-row (read-rows fresh γ) e []
-    → read-rows fresh (snoc γ e) ≡ stepped (read-rows fresh γ) e → Meets γ e
+    → read-rows fresh (snoc γ e) ≡ stepped (read-rows fresh γ) e → Device-met γ e
 row-meets [] e z f is = first-meets e f
 row-meets (r ∷ rs) e z f is =
     let v = rows-invariant r rs z in
     let s = step-from-test _ v e (f .step) (f .kinds) in
     step-meets (r ∷ rs) e v s (is ∙ stepped-is _ v e s)
 
-pub record-meets : (γ : List Rec) (e : Rec) → rows-refusal fresh (snoc γ e) ≡ 0 → Meets γ e
+pub record-meets : (γ : List Rec) (e : Rec) → rows-refusal fresh (snoc γ e) ≡ 0 → Device-met γ e
 record-meets γ e z =
     let d = rows-divided fresh γ (e ∷ []) z in
     row-meets γ e (d .0) (rows-cons _ e [] (d .1)) (read-snoc fresh γ e)
@@ -75,7 +75,7 @@ module _ (γ : List Rec) (e : Rec) {kinds : List ℕ} {n : ℕ} (h : Kinds-held 
   old = read-rows fresh γ .kinds
 
   -- a backward record leaves it
-  backward-met : Meets γ e → e .j ≤ e .i → Kinds-met (snoc γ e) kinds n kinds n
+  backward-met : Device-met γ e → e .j ≤ e .i → Kinds-met (snoc γ e) kinds n kinds n
   backward-met (meets-two a i j is) low = absurd (omega arith)
   backward-met (meets-one up a b c is) low = absurd (omega arith)
   backward-met (meets-none down is) low =
@@ -133,21 +133,21 @@ module _ (γ : List Rec) (e : Rec) {kinds : List ℕ} {n : ℕ} (h : Kinds-held 
       same : set kinds (e .i) (e .ki) ≡ kinds
       same = ap (set kinds (e .i)) (sym kind-is) ∙ set-getD kinds (e .i) 256
 
-  forward-met : Meets γ e → e .i < e .j → Kinds-met (snoc γ e) kinds n (set (set kinds (e .i) (e .ki)) (e .j) (e .kj)) (e .j + 1)
+  forward-met : Device-met γ e → e .i < e .j → Kinds-met (snoc γ e) kinds n (set (set kinds (e .i) (e .ki)) (e .j) (e .kj)) (e .j + 1)
   forward-met (meets-two a i j is) up = two-met a i j is
   forward-met (meets-one u a b k is) up = one-met u a b k is
   forward-met (meets-none down is) up = absurd (omega arith)
 
 -- THE CODE GROWN in place
 module _ {code kinds : List ℕ} {m n : ℕ} {e : Rec} (a : Can-append code kinds m n e) where
-  meets : Meets (recs-in m code) e
+  meets : Device-met (recs-in m code) e
   meets = record-meets (recs-in m code) e (a .accepted)
 
   -- a forward record stays within the array
   pub forward-low : e .i < e .j → e .j ≤ 9
   forward-low up = go meets
     where
-      go : Meets (recs-in m code) e → e .j ≤ 9
+      go : Device-met (recs-in m code) e → e .j ≤ 9
       go (meets-two b i j is) = omega arith
       go (meets-one u b l k is) = l
       go (meets-none down is) = absurd (omega arith)

@@ -33,7 +33,7 @@ fn labelled(i: usize, j: usize, ki: u8, l: u32) -> Record
 
 // The record at a place after the records held: a backward one from the newest device, or a forward one to a new device.
 // Where no record is held yet, device 0 alone is there, of this kind.
-pub fn next_record(
+pub fn record_at_place(
     kinds: &[u8; 10],
     devices: usize,
     kind: u8,

@@ -22,7 +22,7 @@ pub record Room-to-choose (s : ℕ) (list : List ℕ) (base : ℕ) : Type 0 wher
   pub room : base + places-size ≤ candidates-size
 
 -- WHAT GOES ON FROM γ above some floors in at least s drawings stands in the list from `base` up to `top`; the cells are blank again
-pub record Next-chosen (ds : List Drawing) (γ : List Rec) (rank : List ℕ) (n s : ℕ) (cells seen list : List ℕ) (base : ℕ) (list-now : List ℕ)
+pub record Candidates-chosen (ds : List Drawing) (γ : List Rec) (rank : List ℕ) (n s : ℕ) (cells seen list : List ℕ) (base : ℕ) (list-now : List ℕ)
     (top : ℕ) : Type 0 where
   pub floors : List ℕ
   pub laid : Floors-of γ floors

@@ -10,7 +10,7 @@ use Rattle.walks.specs.LabelMarks.{drawings-of}
 use Rattle.walks.specs.Prepared.{Readied, Counted-cells, Counted-above}
 use Rattle.walks.specs.PreparedLaws.{drawings-counted, prepared-few}
 use Rattle.walks.specs.Choices.{Of-sets, Can-choose, Chose}
-use Rattle.choosing.specs.NextChosen.{Room-to-choose, Next-chosen}
+use Rattle.choosing.specs.NextChosen.{Room-to-choose, Candidates-chosen}
 
 module _ {survey labels rank : List ℕ} {n s : ℕ} (r : Readied survey labels rank n) {list : List ℕ} {base : ℕ} (room : Room-to-choose s list base)
     (γ : List Rec) {cells seen : List ℕ} {found : ℕ} (above : Counted-above (drawings-of survey) γ rank n cells seen found) where
@@ -36,7 +36,7 @@ module _ {survey labels rank : List ℕ} {n s : ℕ} (r : Readied survey labels 
       }
 
   pub counted-chosen : {cells₂ list₂ : List ℕ} {top : ℕ} → Chose cells s list base cells₂ seen list₂ top
-      → Next-chosen (drawings-of survey) γ rank n s cells₂ seen list base list₂ top
+      → Candidates-chosen (drawings-of survey) γ rank n s cells₂ seen list base list₂ top
   counted-chosen t =
       record {
         floors = above .floors;

@@ -13,7 +13,7 @@ ghost use Rattle.walks.specs.LabelMarks.{drawings-of};
 ghost use Rattle.walks.specs.Prepared.{Readied};
 ghost use Rattle.walks.specs.Counts.{Blank};
 ghost use Rattle.walks.specs.EmbeddingRows.{Can-list-if, Level-made};
-ghost use Rattle.choosing.specs.NextChosen.{Room-to-choose, Next-chosen};
+ghost use Rattle.choosing.specs.NextChosen.{Room-to-choose, Candidates-chosen};
 
 // Where the candidates end in the list, and whether the lists of the code's embeddings are whole.
 pub struct Chosen {
@@ -43,7 +43,7 @@ pub fn choose_next(
     requires { ⌜ Readied (now survey) (now labels) (now rank) n × Blank (now cells) (now seen)
         × Can-list-if (now survey) (now labels) (now code) m cell listed (now kept) (now ends)
         × Room-to-choose s (now list) base ⌝ }
-    ensures { λ r. ⌜ Next-chosen (drawings-of (now (survey .entry))) (recs-in m (now (code .entry))) (now (rank .entry)) n s
+    ensures { λ r. ⌜ Candidates-chosen (drawings-of (now (survey .entry))) (recs-in m (now (code .entry))) (now (rank .entry)) n s
         (now (cells .exit)) (now (seen .exit)) (now (list .entry)) base (now (list .exit)) (r .top)
         × Level-made (now (survey .entry)) (now (code .entry)) m
         (now (kept .entry)) (now (ends .entry)) (now (kept .exit)) (now (ends .exit)) (r .listed) ⌝ }

@@ -45,9 +45,9 @@ use Rattle.walks.specs.PreparedLaws.{drawings-counted, prepared-few, prepared-p
 use Rattle.walks.specs.Counts.{Can-count}
 use Rattle.laws.specs.Parts.{part}
 use Rattle.walks.specs.Choices.{List-kept}
-use Rattle.choosing.specs.NextChosen.{Room-to-choose, Next-chosen}
+use Rattle.choosing.specs.NextChosen.{Room-to-choose, Candidates-chosen}
 use Rattle.candidates.specs.HeldCode.{Code-held}
-use Rattle.taking.specs.Taking.{Can-take-candidate, Entry-put, Candidate-taken, over-of, full-of, count-of, Taken-on, Goes-on}
+use Rattle.taking.specs.Taking.{Can-take-candidate, Entry-put, Candidate-taken, over-of, full-of, count-of, Taken-on, Entry-goes-on}
 use Rattle.growing.specs.GrowthOutcomes.{
   growth-of,
   Can-grow-pattern,
@@ -216,7 +216,7 @@ module _ {survey labels rank alphabet : List ℕ} {g : Settings} {γ : List Rec}
         }
 
   -- SMALLER: its next cables are chosen and walked
-  module _ {mid : List ℕ} {more : ℕ} (o : Goes-on γ cell (g .limit) count out more mid) where
+  module _ {mid : List ℕ} {more : ℕ} (o : Entry-goes-on γ cell (g .limit) count out more mid) where
     less : length γ < g .limit
     less = omega (arith, a .most, o .smaller)
 
@@ -229,7 +229,7 @@ module _ {survey labels rank alphabet : List ℕ} {g : Settings} {γ : List Rec}
         }
 
     module _ {cells₂ seen₂ list₂ : List ℕ} {top : ℕ}
-        (c : Next-chosen (drawings-of survey) γ rank (g .labels) (g .threshold) cells₂ seen₂ list base list₂ top) where
+        (c : Candidates-chosen (drawings-of survey) γ rank (g .labels) (g .threshold) cells₂ seen₂ list base list₂ top) where
       sets-few : (p : ℕ) → length (c .sets p) ≤ 32
       sets-few p = omega (arith, c .counting .size p, few)
 

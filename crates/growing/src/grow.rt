@@ -10,7 +10,7 @@ use records::code::Code;
 use surveys::labels::TABLES;
 use surveys::ranks::ALPHABET;
 use surveys::ranks::LABELS;
-use taking::take::Step;
+use taking::take::TakenOn;
 use taking::take::take_on;
 ghost use mathlib.Core.Path.{_≡_};
 ghost use Prim.Native.Nat.{_+_};
@@ -37,7 +37,7 @@ pub enum Growth {
 }
 
 // What stands in the output after a pattern of which that was all.
-fn ended(step: Step) -> Growth
+fn ended(step: TakenOn) -> Growth
     ensures { λ r. ⌜ r ≡ growth-of (step .full) (step .count) ⌝ }
 {
     if step.full {

@@ -17,7 +17,7 @@ use Rattle.tables.specs.declared.«record».Order.the-variants.{After}
 use Rattle.branches.specs.declared.extension.Extension.{Extension}
 use Rattle.branches.specs.declared.extension.Extension.the-variants.{Chord, Edge, None}
 use Rattle.branches.specs.Extensions.{Extension-found}
-use Rattle.branches.specs.Branches.{chorded, Placed}
+use Rattle.branches.specs.Branches.{chorded, On-path}
 use Rattle.branches.specs.InPlaceLaws.{chorded-is, places-at, bounds-places}
 use Rattle.branches.specs.NextRecords.{found-record}
 use Rattle.branches.specs.Ways.{Ties-way, Way, Passed, followed}
@@ -149,7 +149,7 @@ module _ {bs table : List ℕ} {m t : ℕ} {b : State} {best : List Rec} {q l : 
 -- a forward one needs room for a number
 module _ {bs table : List ℕ} {m t : ℕ} {b : State} {best : List Rec} {q l : ℕ} {first : List ℕ} {held : ℕ}
     (z : Next-chosen bs table m t b best (Edge q l) first held) where
-  pub edge-placed : Placed (b .numbers) (b .path) q × (length (b .used) ≡ 10)
+  pub edge-placed : On-path (b .numbers) (b .path) q × (length (b .used) ≡ 10)
   edge-placed = (places-at (bounds-places b (search-bounds (z .from))) q (z .found .place), z .from .represents .used-size)
 
   pub edge-room : (w : ℕ) → Ties-way table b q l w → (b .given < 10) × (q < 9) × (w < 10)

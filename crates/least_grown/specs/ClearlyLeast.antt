@@ -6,7 +6,7 @@ use Prim.Native.Nat.{ℕ, suc, _≤_, _<_}
 use Rattle.laws.specs.Rows.{row}
 use Rattle.codes.specs.Code.{Rec, rec-in}
 use Rattle.least_seen.specs.Betters.{reversed-record}
-use Rattle.least_test.specs.LabelNumbers.{Numbers-labels}
+use Rattle.least_test.specs.StartNumbers.{Numbers-labels}
 
 -- the labels of a cable, seen from its i, come after those with the number `first`
 pub record Labels-after (first : ℕ) (e : Rec) : Type 0 where

@@ -24,7 +24,7 @@ use Rattle.codes.specs.OwnNumbering.{Well-grown}
 use Rattle.tables.specs.CodeRows.{code-record-at, record-accepted}
 use Rattle.tables.specs.CodeCables.{decoded-cables-are, record-i-kind, record-j-kind}
 use Rattle.least_seen.specs.Betters.{Better-below, Begins-better, Some-start}
-use Rattle.least_test.specs.LabelNumbers.{Numbers-labels}
+use Rattle.least_test.specs.StartNumbers.{Numbers-labels}
 use Rattle.least_test.specs.LeastStarts.{
   has-at,
   seen-along,

@@ -26,7 +26,7 @@ use Rattle.codes.specs.BranchSteps.{represents-first}
 use Rattle.codes.specs.Code.{code-records}
 use Rattle.tables.specs.CodeRows.{records-through, records-on, code-ten, code-simple}
 use Rattle.tables.specs.CodeCables.{code-cables, record-cable, record-i-kind, record-j-kind}
-use Rattle.least_test.specs.LabelNumbers.{Numbers-labels, lower-number, same-number}
+use Rattle.least_test.specs.StartNumbers.{Numbers-labels, lower-number, same-number}
 use Rattle.least_seen.specs.Betters.{
   Follows,
   Better-below,

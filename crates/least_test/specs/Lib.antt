@@ -1,3 +1,3 @@
 -- Laws.
-pub mod LabelNumbers
+pub mod StartNumbers
 pub mod LeastStarts

@@ -14,7 +14,7 @@ ghost use Rattle.codes.specs.Twins.{Twins-noted};
 ghost use Rattle.tables.specs.Records.{as-rec};
 ghost use Rattle.least_seen.specs.Betters.{Better-below, Seen-cable, reversed-record, Begins-better, Some-start};
 ghost use Rattle.least_seen.specs.Accepting.{Test-counts, Test-goes-on};
-ghost use Rattle.least_test.specs.LabelNumbers.{Numbers-labels};
+ghost use Rattle.least_test.specs.StartNumbers.{Numbers-labels};
 
 // The labels of a record as one number that rises as they do: kind of i, cable kind, kind of j.
 pub fn labels_number(r: Record) -> u32

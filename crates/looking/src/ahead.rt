@@ -2,7 +2,7 @@
 use candidates::choose::CANDIDATES;
 use candidates::choose::PLACE;
 use candidates::extension::append;
-use candidates::extension::next_record;
+use candidates::extension::record_at_place;
 use candidates::hopeful::hopeless;
 use records::code::Code;
 use surveys::ranks::ALPHABET;
@@ -31,7 +31,7 @@ fn lengthen(
     ensures { λ r. ⌜ Lengthened (now (code .entry)) (now (kinds .entry)) cables devices kind (now (alphabet .entry)) n place
         (now (code .exit)) (now (kinds .exit)) r ⌝ }
 {
-    let next = next_record(kinds, devices, kind, alphabet, n, place);
+    let next = record_at_place(kinds, devices, kind, alphabet, n, place);
     if hopeless(code, cables, next) {
         return 0;
     }

@@ -99,7 +99,7 @@ Step-says h e (From q) = Step-from h e q
 Step-says h e NotPermitted = step-good (as-reading h) e ≡ false
 
 -- A RECORD MORE of a code under work
-pub record Appended (c : Code) (e : Rec) (r : Code) : Type 0 where
+pub record Record-held (c : Code) (e : Rec) (r : Code) : Type 0 where
   pub records : held-records r ≡ held-records c ++ (e ∷ [])
   pub count : r .count ≡ c .count + 1
   pub path : r .path ≡ c .path

@@ -43,7 +43,7 @@ use Rattle.readings.specs.Readings.{
   Sound,
   Path-cut-place,
   Step-from,
-  Appended,
+  Record-held,
   Can-take,
   Steps,
 }
@@ -124,7 +124,7 @@ stepped-invariant h e c = go (c .sound)
 reading-eq : (x y : Reading) → x .kinds ≡ y .kinds → x .path ≡ y .path → x .back ≡ y .back → x .cables ≡ y .cables → x ≡ y
 reading-eq x y p q r s = λ i. record { kinds = p i; path = q i; back = r i; cables = s i }
 
-cables-more : (c r : Code) (e : Rec) → Appended c e r → map cable-of (held-records r) ≡ map cable-of (held-records c) ++ (cable-of e ∷ [])
+cables-more : (c r : Code) (e : Rec) → Record-held c e r → map cable-of (held-records r) ≡ map cable-of (held-records c) ++ (cable-of e ∷ [])
 cables-more c r e a = ap (map cable-of) (a .records) ∙ map-append cable-of (held-records c) (e ∷ [])
 
 stepped-backward : (x : Reading) → Invariant x → (e : Rec) → e .j ≤ e .i → stepped x e ≡ backed x e
@@ -136,7 +136,7 @@ unfolding stepped forward
 stepped-forward x v e up = rw (not-fresh x v e, lt-ltb (e .i) (e .j) up)
 
 -- BACKWARD: the path and the devices stay
-module _ (h : held.Reading) (e : Rec) (s : Can-take h e) (r : Code) (a : Appended (h .code) e r) where
+module _ (h : held.Reading) (e : Rec) (s : Can-take h e) (r : Code) (a : Record-held (h .code) e r) where
   abbrev pub with-back : held.Reading
   with-back = record { code = r; kinds = h .kinds; devices = h .devices; back = e .j }
 
@@ -197,9 +197,9 @@ module _ (h : held.Reading) (wide : length (h .kinds) ≡ 10) (long : length (h 
           let l = falling-place q (h .code .path) (rw (← p .cut) (cut-falling (e .i) _ (b .invariant .falling))) in
           record { first = omega arith; second = omega arith; place = omega (arith, l, p .is) }
 
-  module _ (r : Code) (a : Appended (h .code) e r) where
-    abbrev pub grown : held.Reading
-    grown =
+  module _ (r : Code) (a : Record-held (h .code) e r) where
+    abbrev pub reading-grown : held.Reading
+    reading-grown =
         record {
           code = record { records = r .records; count = r .count; path = set (set (r .path) q (e .i)) (q + 1) (e .j); «path_count» = q + 2 };
           kinds = set (set (h .kinds) (e .i) (e .ki)) (e .j) (e .kj);
@@ -210,7 +210,7 @@ module _ (h : held.Reading) (wide : length (h .kinds) ≡ 10) (long : length (h 
     path-room : q + 1 < length (r .path)
     path-room = omega (arith, ap length (a .path), in-range .place)
 
-    is-first : Not-begun h → as-reading grown ≡ stepped (as-reading h) e
+    is-first : Not-begun h → as-reading reading-grown ≡ stepped (as-reading h) e
     is-first n =
         reading-eq _ (begun e) first-kinds first-path refl first-cables ∙ sym (ap (λ (x : Reading). stepped x e) (n .is) ∙ begun-is e)
       where
@@ -238,7 +238,7 @@ module _ (h : held.Reading) (wide : length (h .kinds) ≡ 10) (long : length (h 
             unfold fresh in
             cables-more (h .code) r e a ∙ ap (λ (x : Reading). x .cables ++ (cable-of e ∷ [])) (n .is)
 
-    is-next : Begun h → as-reading grown ≡ stepped (as-reading h) e
+    is-next : Begun h → as-reading reading-grown ≡ stepped (as-reading h) e
     is-next b =
         reading-eq _ (forwarded (as-reading h) e) kinds-more path-more refl (cables-more (h .code) r e a)
         ∙ sym (stepped-forward (as-reading h) (b .invariant) e up)
@@ -269,7 +269,7 @@ module _ (h : held.Reading) (wide : length (h .kinds) ≡ 10) (long : length (h 
             ∙ ap (λ (v : ℕ). e .j ∷ v ∷ descending q (h .code .path)) (sym (place .is))
             ∙ ap (λ (l : List ℕ). e .j ∷ l) (sym (place .cut))
 
-    pub steps-forward : Steps h e grown
+    pub steps-forward : Steps h e reading-grown
     steps-forward =
         record {
           is = is;
@@ -283,9 +283,9 @@ module _ (h : held.Reading) (wide : length (h .kinds) ≡ 10) (long : length (h 
           count = a .count;
         }
       where
-        is : as-reading grown ≡ stepped (as-reading h) e
+        is : as-reading reading-grown ≡ stepped (as-reading h) e
         is = go (s .sound)
           where
-            go : Sound h → as-reading grown ≡ stepped (as-reading h) e
+            go : Sound h → as-reading reading-grown ≡ stepped (as-reading h) e
             go (readings.not-begun n) = is-first n
             go (readings.begun b) = is-next b

@@ -9,7 +9,7 @@ ghost use Prim.Native.Nat.{_≤_, _<_};
 ghost use Rattle.codes.specs.Code.{step-good, kinds-match};
 ghost use Rattle.tables.specs.Records.{as-rec};
 ghost use Rattle.readings.specs.Readings.{as-reading, Not-begun, Begun, Sound, Place-says, Step-from, Step-says};
-ghost use Rattle.readings.specs.Readings.{Appended, Can-take, Steps};
+ghost use Rattle.readings.specs.Readings.{Record-held, Can-take, Steps};
 
 // What the records so far tell: the code under work, the kind that each device was first given, and the j of the record
 // before if that one was backward, else NO_BACK.
@@ -44,7 +44,7 @@ fn place_on(path: &[u8; Drawing::MOST_DEVICES], count: usize, device: u8) -> Ste
 // The code with a record more; its path stays.
 pub fn with_record(mut code: Code, next: Record) -> Code
     requires { ⌜ code .count < 20 ⌝ }
-    ensures { λ r. ⌜ Appended code (as-rec next) r ⌝ }
+    ensures { λ r. ⌜ Record-held code (as-rec next) r ⌝ }
 {
     let k = code.count;
     put_record(&mut code.records, k, next);

@@ -3,7 +3,7 @@ use reader::reader::Opened;
 use reader::reader::Reader;
 use records::refusal::Checked;
 use transcript::answer::checked;
-use transcript::bytes::number;
+use transcript::bytes::two_bytes;
 use transcript::print::print_answer;
 use transcript::print::print_bytes;
 
@@ -29,8 +29,8 @@ fn fetch_three(survey: &[u8], a: usize, b: usize, c: usize) {
 
 // The same of the drawings whose numbers are listed.
 pub fn fetch_listed(survey: &[u8], drawings: &[u8]) {
-    let a = number(drawings, 0) as usize;
-    let b = number(drawings, 2) as usize;
-    let c = number(drawings, 4) as usize;
+    let a = two_bytes(drawings, 0) as usize;
+    let b = two_bytes(drawings, 2) as usize;
+    let c = two_bytes(drawings, 4) as usize;
     fetch_three(survey, a, b, c);
 }

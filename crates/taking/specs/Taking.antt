@@ -67,7 +67,7 @@ pub record Taken-on (γ : List Rec) (cell limit count : ℕ) (out : List ℕ) (o
   pub count-is : more ≡ count-of count taken
 
 -- its entry is written, and it is smaller
-pub record Goes-on (γ : List Rec) (cell limit count : ℕ) (out : List ℕ) (more : ℕ) (out-now : List ℕ) : Type 0 where
+pub record Entry-goes-on (γ : List Rec) (cell limit count : ℕ) (out : List ℕ) (more : ℕ) (out-now : List ℕ) : Type 0 where
   pub put : Entry-put γ cell count out out-now
   pub smaller : length γ ≡ limit → ⊥
   pub one-more : more ≡ count + 1

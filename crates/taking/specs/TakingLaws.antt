@@ -8,7 +8,7 @@ use lib.ListN.{length}
 use Rattle.codes.specs.Code.{Rec}
 use Rattle.taking.specs.declared.take.Taken.{Taken}
 use Rattle.taking.specs.declared.take.Taken.the-variants.{Passed, Full, Written}
-use Rattle.taking.specs.Taking.{Candidate-taken, over-of, full-of, count-of, Taken-on, Goes-on}
+use Rattle.taking.specs.Taking.{Candidate-taken, over-of, full-of, count-of, Taken-on, Entry-goes-on}
 
 -- by the answer
 pub taken-as :
@@ -25,11 +25,11 @@ taken-as {γ} {cell} {limit} {count} {m} {out} {z} {v} w e size t =
 
 pub taken-goes-on :
     {γ : List Rec} {cell limit count : ℕ} {out : List ℕ} {over full : Bool} {more : ℕ} {z : List ℕ} → Taken-on γ cell limit count out over full more z
-    → over ≡ false → Goes-on γ cell limit count out more z
+    → over ≡ false → Entry-goes-on γ cell limit count out more z
 taken-goes-on {γ} {cell} {limit} {count} {out} {over} {full} {more} {z} t o = go (t .taken) (t .told) (sym (t .over-is) ∙ o) (t .count-is)
   where
     go : (v : Taken) → Candidate-taken γ cell count out v z → over-of (length γ) limit v ≡ false → more ≡ count-of count v
-        → Goes-on γ cell limit count out more z
+        → Entry-goes-on γ cell limit count out more z
     go Passed w e k = absurd (true≢false e)
     go Full w e k = absurd (true≢false e)
     go Written w e k = record { put = w; smaller = eqb-false (length γ) limit e; one-more = k }

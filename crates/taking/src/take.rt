@@ -15,7 +15,7 @@ pub enum Taken {
 }
 
 // A candidate after it was taken up: whether that was all, whether its entry did not fit, and how many entries stand in the output.
-pub struct Step {
+pub struct TakenOn {
     pub over: bool,
     pub full: bool,
     pub count: usize,
@@ -53,23 +53,23 @@ pub fn take_on(
     limit: usize,
     output: &mut [u8],
     count: usize,
-) -> Step
+) -> TakenOn
     requires { ⌜ Can-take-candidate (now code) cables devices cell (now output) count ⌝ }
     ensures { λ r. ⌜ Taken-on (recs-in cables (now (code .entry))) cell limit count (now (output .entry))
         (r .over) (r .full) (r .count) (now (output .exit)) ⌝ }
 {
     match take_up(code, cables, devices, cell, output, count) {
-        Taken::Passed => Step {
+        Taken::Passed => TakenOn {
             over: true,
             full: false,
             count,
         },
-        Taken::Full => Step {
+        Taken::Full => TakenOn {
             over: true,
             full: true,
             count,
         },
-        Taken::Written => Step {
+        Taken::Written => TakenOn {
             over: cables == limit,
             full: false,
             count: count + 1,

@@ -5,7 +5,7 @@ pub fn byte(bytes: &[u8], at: usize) -> u8 {
 }
 
 // A number of two bytes, the low one first.
-pub fn number(bytes: &[u8], at: usize) -> u32 {
+pub fn two_bytes(bytes: &[u8], at: usize) -> u32 {
     let low = byte(bytes, at);
     let high = byte(bytes, std::num::wrapping_add_usize(at, 1));
     low as u32 + 256 * (high as u32)

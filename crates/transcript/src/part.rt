@@ -1,10 +1,10 @@
 // The parts of a list. A part is its length and that many bytes; a length is a number of two bytes, the low one first.
-use crate::bytes::number;
+use crate::bytes::two_bytes;
 
 // The place after the part at a place; no list comes near the wrap.
 pub fn after(list: &[u8], at: usize) -> usize {
     let start = std::num::wrapping_add_usize(at, 2);
-    std::num::wrapping_add_usize(start, number(list, at) as usize)
+    std::num::wrapping_add_usize(start, two_bytes(list, at) as usize)
 }
 
 // The bytes of the part at a place; none where they are not all there.

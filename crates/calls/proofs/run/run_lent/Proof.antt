@@ -5,8 +5,8 @@ use borrow.Author.Needs.{needs}
 use Rattle.calls.proofs.run.run_lent.Statement.{statement}
 use Rattle.calls.proofs.run.run_lent.Tie as tie
 
-number-requires : tie.Need-number-requires
-number-requires c κs = search needs
+two-bytes-requires : tie.Need-two-bytes-requires
+two-bytes-requires c κs = search needs
 
 cast-lent : tie.Need-cast-lent
 cast-lent c = search needs
@@ -45,7 +45,7 @@ pub run-lent-spec : {M : Type 1} → statement M
 run-lent-spec =
     tie.close
     (tie.spec
-    number-requires
+    two-bytes-requires
     cast-lent
     slice-relend-prefix-write
     slice-aggregate-write

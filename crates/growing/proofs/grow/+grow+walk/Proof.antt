@@ -9,7 +9,7 @@ use Rattle.codes.specs.Code.{recs-in}
 use Rattle.codes.specs.CodeBytes.{recs-in-length}
 use Rattle.candidates.specs.HeldCode.{Code-kept}
 use Rattle.candidates.specs.HeldCodeLaws.{code-same, code-grown}
-use Rattle.taking.specs.Taking.{Goes-on}
+use Rattle.taking.specs.Taking.{Entry-goes-on}
 use Rattle.taking.specs.TakingLaws.{taken-goes-on}
 use Rattle.walks.specs.EmbeddingLists.{Lists-kept}
 use Rattle.walks.specs.EmbeddingListLaws.{lists-kept-same}
@@ -110,7 +110,7 @@ grow-same-length t c = grow-returns t c .0 .size
 goes-on : (t : ℕ) (c : grow-lts.Else1 (grow-claims t) (grow-at t) grow.Post)
     → let u = c .before .before .before in
     let s = u .before .before .before .before .before in
-    Goes-on (recs-in (s .args .cables) (s .args .code .now)) (s .args .cell) (s .args .settings .limit) (s .args .count) (s .args .output .now)
+    Entry-goes-on (recs-in (s .args .cables) (s .args .code .now)) (s .args .cell) (s .args .settings .limit) (s .args .count) (s .args .output .now)
     (u .take-on .result .count) (u .take-on .last .1 .1 .1 .1 .1 .0)
 goes-on t c = taken-goes-on (c .before .before .before .take-on .ensures) (c .if1 .left)
 

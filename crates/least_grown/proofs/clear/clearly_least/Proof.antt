@@ -7,7 +7,7 @@ use borrow.Author.Needs.{needs}
 use borrow.Author.Tests.{not-true}
 use Rattle.codes.specs.Code.{Rec}
 use Rattle.codes.specs.CodeBytes.{accepted-code}
-use Rattle.least_test.specs.LabelNumbers.{Numbers-labels}
+use Rattle.least_test.specs.StartNumbers.{Numbers-labels}
 use Rattle.least_grown.specs.ClearlyLeast.{Starts-after, Some-parts}
 use Rattle.least_grown.specs.ClearlyLeastLaws.{no-start-before}
 use Rattle.least_grown.proofs.clear.clearly_least.Statement.{statement}

@@ -12,7 +12,7 @@ use Rattle.codes.specs.Code.{code-records}
 use Rattle.codes.specs.CodeBytes.{accepted-code}
 use Rattle.tables.specs.Records.{as-rec}
 use Rattle.least_seen.specs.Betters.{Seen-cable, reversed-record, Begins-better, Tried}
-use Rattle.least_test.specs.LabelNumbers.{Numbers-labels}
+use Rattle.least_test.specs.StartNumbers.{Numbers-labels}
 use Rattle.least_test.specs.LeastStarts.{seen-along, seen-against, own-start, tried-start, tried-next, tried-all}
 use Rattle.least_test.proofs.starts.some_start_better.Statement.{statement}
 use Rattle.least_test.proofs.starts.some_start_better.Tie as tie

@@ -1,4 +1,4 @@
--- `growing::next_record` meets its contract: what each branch makes is the record at the place. Assumes nothing.
+-- `extension::record_at_place` meets its contract: what each branch makes is the record at the place. Assumes nothing.
 use native.Mathlib.Omega.{arith}
 use borrow.Author.Needs.{needs}
 use Rattle.candidates.specs.NextRecordLaws.{
@@ -11,8 +11,8 @@ use Rattle.candidates.specs.NextRecordLaws.{
   off-forward,
   off-most,
 }
-use Rattle.candidates.proofs.extension.next_record.Statement.{statement}
-use Rattle.candidates.proofs.extension.next_record.Tie as tie
+use Rattle.candidates.proofs.extension.record_at_place.Statement.{statement}
+use Rattle.candidates.proofs.extension.record_at_place.Tie as tie
 
 div-row : tie.Need-div-row
 div-row c = search needs
@@ -66,8 +66,8 @@ returns-3 c =
     let s = c .before .before .before .before .before in
     off-forward (s .pre .wide) _ (c .before .before .before .if1 .left) (omega (arith, c .before .before .if2 .left)) (c .labelled3 .ensures)
 
-pub next-record-spec : {M : Type 1} → statement M
-next-record-spec =
+pub record-at-place-spec : {M : Type 1} → statement M
+record-at-place-spec =
     tie.close
     (tie.spec
     div-row

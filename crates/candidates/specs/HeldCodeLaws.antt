@@ -46,12 +46,12 @@ module _ {m n : ℕ} {code kinds code₁ kinds₁ : List ℕ} (most : m ≤ 20) 
       (concat-injective 5 (rows 5 m code₁) (rows 5 m code) (omega arith) (rows-sized 5 m code₁ (omega (arith, k .sized .long)))
       (rows-sized 5 m code (omega (arith, s .long))) (concat-rows 5 m code₁ ∙ k .front .is ∙ sym (concat-rows 5 m code)))
 
-  pub kinds-kept : Kinds-held (recs-in m code) kinds n → Kinds-held (recs-in m code) kinds₁ n
-  kinds-kept h = record { count = h .count; are = k .met .is ∙ h .are }
+  pub kinds-held-on : Kinds-held (recs-in m code) kinds n → Kinds-held (recs-in m code) kinds₁ n
+  kinds-held-on h = record { count = h .count; are = k .met .is ∙ h .are }
 
   pub held-kept : Kinds-held (recs-in m code) kinds n → Code-held code₁ kinds₁ m n
   held-kept h =
-      record { sized = k .sized; met = subst (λ (γ : List Rec). Kinds-held γ kinds₁ n) (sym records-kept) (kinds-kept h) }
+      record { sized = k .sized; met = subst (λ (γ : List Rec). Kinds-held γ kinds₁ n) (sym records-kept) (kinds-held-on h) }
 
 -- NO RECORD YET
 pub no-records : (code : List ℕ) → recs-in 0 code ≡ []

@@ -16,7 +16,7 @@ ghost use Rattle.walks.specs.EmbeddingRows.{Can-list-if, Level-made};
 ghost use Rattle.choosing.specs.NextChosen.{Room-to-choose, Candidates-chosen};
 
 // Where the candidates end in the list, and whether the lists of the code's embeddings are whole.
-pub struct Chosen {
+pub struct ChosenNext {
     pub top: usize,
     pub listed: bool,
 }
@@ -39,7 +39,7 @@ pub fn choose_next(
     listed: bool,
     kept: &mut [u8; KEPT],
     ends: &mut [usize; ENDS],
-) -> Chosen
+) -> ChosenNext
     requires { ⌜ Readied (now survey) (now labels) (now rank) n × Blank (now cells) (now seen)
         × Can-list-if (now survey) (now labels) (now code) m cell listed (now kept) (now ends)
         × Room-to-choose s (now list) base ⌝ }
@@ -63,7 +63,7 @@ pub fn choose_next(
         ends,
     );
     let top = choose(cells, seen, next.found, s, list, base);
-    Chosen {
+    ChosenNext {
         top,
         listed: next.listed,
     }

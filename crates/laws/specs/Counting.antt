@@ -7,7 +7,7 @@ use native.Mathlib.Nat.{not-suc-le-zero, le-of-suc-le-suc}
 use native.Mathlib.Omega.{arith}
 use native.Mathlib.Decide.{ℕ-discrete}
 use lib.ListN.{length, getD}
-use Rattle.laws.specs.Lists.{Mem, Place, place, mem-at, mem-eq}
+use Rattle.laws.specs.Lists.{Mem, Mem-place, place, mem-at, mem-eq}
 
 -- no element twice
 unfoldable pub Different : {A : Type 0} → List A → Type 0
@@ -88,7 +88,7 @@ injective-different (x ∷ xs) n = (
       (λ i j h g e. omega (arith, n (suc i) (suc j) (omega arith) (omega arith) e)),
 )
   where
-    head : Place 256 xs x → ⊥
+    head : Mem-place 256 xs x → ⊥
     head p = omega (arith, n 0 (suc (p .i)) (omega arith) (omega (arith, p .below)) (sym (p .is)))
 
 pub different-injective : (f : List ℕ) → Different f → Injective f
@@ -142,5 +142,5 @@ different-all n f d low size v h =
 pub injective-fits : (n : ℕ) (f : List ℕ) → Injective f → ((i : ℕ) → i < length f → at f i < n) → length f ≤ n
 injective-fits n f inj low = different-below n f (injective-different f inj) (λ v m. go v (place 256 m))
   where
-    go : (v : ℕ) → Place 256 f v → v < n
+    go : (v : ℕ) → Mem-place 256 f v → v < n
     go v p = rw (p .is) at (low (p .i) (p .below))

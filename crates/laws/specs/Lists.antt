@@ -51,16 +51,16 @@ module _ {A : Type 0} where
   mem-concat (ys ∷ yss) (there h) m = mem-back ys (mem-concat yss h m)
 
   -- where an element stands
-  pub record Place (d : A) (xs : List A) (v : A) : Type 0 where
+  pub record Mem-place (d : A) (xs : List A) (v : A) : Type 0 where
     pub i : ℕ
     pub below : i < length xs
     pub is : getD xs i d ≡ v
 
-  pub place : (d : A) {xs : List A} {v : A} → Mem v xs → Place d xs v
+  pub place : (d : A) {xs : List A} {v : A} → Mem v xs → Mem-place d xs v
   place d (here e) = record { i = 0; below = omega arith; is = e }
   place d {v = v} (there {x = x} {xs = xs} m) = go (place d m)
     where
-      go : Place d xs v → Place d (x ∷ xs) v
+      go : Mem-place d xs v → Mem-place d (x ∷ xs) v
       go p = record { i = suc (p .i); below = omega (arith, p .below); is = p .is }
 
   pub mem-at : (d : A) (xs : List A) (i : ℕ) → i < length xs → Mem (getD xs i d) xs

@@ -12,7 +12,7 @@ use Rattle.laws.specs.Tests.{
   less,
   same,
   more,
-  reversed,
+  three-reversed,
   compare-numbers,
   or-cases,
   or-left,
@@ -76,7 +76,7 @@ module _ {A : Type 0} where
         trans = λ a b c p q. o .trans c b a q p;
         left = λ a b c p q. o .right c b a q (o .eq-sym a b p);
         right = λ a b c p q. o .left c b a (o .eq-sym b c q) p;
-        tri = λ a b. reversed (o .tri a b);
+        tri = λ a b. three-reversed (o .tri a b);
       }
 
   pub falling-order : (k : A → ℕ) → Weak-order (falling k) (same-key k)

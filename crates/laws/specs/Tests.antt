@@ -13,10 +13,10 @@ pub data Three (A B C : Type 0) : Type 0 where
   same : B → Three A B C
   more : C → Three A B C
 
-pub reversed : {A B C : Type 0} → Three A B C → Three C B A
-reversed (less p) = more p
-reversed (same p) = same p
-reversed (more p) = less p
+pub three-reversed : {A B C : Type 0} → Three A B C → Three C B A
+three-reversed (less p) = more p
+three-reversed (same p) = same p
+three-reversed (more p) = less p
 
 pub test : (b : Bool) → (b ≡ true) ⊎ (b ≡ false)
 test true = inl refl

@@ -152,8 +152,8 @@ module _ {bs table : List ℕ} {m t : ℕ} {b : State} {best : List Rec} {q l : 
   pub edge-placed : On-path (b .numbers) (b .path) q × (length (b .used) ≡ 10)
   edge-placed = (places-at (bounds-places b (search-bounds (z .from))) q (z .found .place), z .from .represents .used-size)
 
-  pub edge-room : (w : ℕ) → Ties-way table b q l w → (b .given < 10) × (q < 9) × (w < 10)
-  edge-room w k = tie-room (search-sees (z .from)) q l w (z .found) k
+  pub edge-tie-room : (w : ℕ) → Ties-way table b q l w → (b .given < 10) × (q < 9) × (w < 10)
+  edge-tie-room w k = tie-room (search-sees (z .from)) q l w (z .found) k
 
 -- IT IS FOUND and compared with the best
 pub record Next-met (bs table : List ℕ) (m t : ℕ) (b : State) (best : List ℕ) (held : ℕ) (e : Extension) (next : Rec) (o : Order) : Type 0 where

@@ -40,18 +40,18 @@ module _ {code kinds : List ℕ} {m devices kind : ℕ} {alphabet : List ℕ} {n
 
   -- the record that is read off
   module _ {e : Rec} (r : Read-off kinds devices kind alphabet n place e) where
-    pub read-next : e ≡ record-at (basis kind (recs-in m code)) alphabet n place
-    read-next = r .told (recs-in m code) (p .work .held .met) (p .rank) (p .next .can-read)
+    pub looked-record : e ≡ record-at (basis kind (recs-in m code)) alphabet n place
+    looked-record = r .told (recs-in m code) (p .work .held .met) (p .rank) (p .next .can-read)
 
     accepted-next : rows-refusal fresh (snoc (recs-in m code) e) ≡ 0
-    accepted-next = subst (λ (x : Rec). rows-refusal fresh (snoc (recs-in m code) x) ≡ 0) (sym read-next) (p .next .accepted)
+    accepted-next = subst (λ (x : Rec). rows-refusal fresh (snoc (recs-in m code) x) ≡ 0) (sym looked-record) (p .next .accepted)
 
     pub may-look : Can-look code m e
     may-look =
         record {
           room = p .work .room;
           accepted = accepted-next;
-          drawn = subst (λ (x : Rec). is-pattern (decoded (snoc (recs-in m code) x)) ≡ true) (sym read-next) (p .next .drawn);
+          drawn = subst (λ (x : Rec). is-pattern (decoded (snoc (recs-in m code) x)) ≡ true) (sym looked-record) (p .next .drawn);
         }
 
     pub may-append : Can-append code kinds m devices e
@@ -63,7 +63,7 @@ module _ {code kinds : List ℕ} {m devices kind : ℕ} {alphabet : List ℕ} {n
         record {
           none = λ z. (
             λ l. look .not-least told
-                (subst (λ (x : Rec). Least (decoded (snoc (recs-in m code) x)) (snoc (recs-in m code) x)) (sym read-next) l),
+                (subst (λ (x : Rec). Least (decoded (snoc (recs-in m code) x)) (snoc (recs-in m code) x)) (sym looked-record) l),
             refl,
             refl,
           );
@@ -80,8 +80,8 @@ module _ {code kinds : List ℕ} {m devices kind : ℕ} {alphabet : List ℕ} {n
           none = λ z. absurd (omega (arith, some));
           some = λ l.
               record {
-                appended = subst (λ (x : Rec). Appended code kinds m devices x code-now kinds-now more) read-next a;
-                well = subst (λ (x : Rec). Well-grown (snoc (recs-in m code) x)) read-next
+                appended = subst (λ (x : Rec). Appended code kinds m devices x code-now kinds-now more) looked-record a;
+                well = subst (λ (x : Rec). Well-grown (snoc (recs-in m code) x)) looked-record
                     (grown-well code m e (p .work .greedy) (look .hopeful told));
               };
         }

@@ -101,10 +101,10 @@ module _ {bs : List ℕ} {s l : ℕ} (a : Accepted-call bs s l) (n : ℕ) where
       fits = le-ltb (length o) _ (omega (arith, m .room, count, e))
 
   -- DOES NOT FIT
-  pub writes-none :
+  pub writes-empty :
       (o y z : List ℕ) → Mined bs (record { labels = n; threshold = s; limit = l }) o Full y → length y ≡ length o → z ≡ replicate (length y) 0
       → Writes bs s l o (Refused OutputLength 0) z
-  writes-none o y z m e is =
+  writes-empty o y z m e is =
       let x = catalogue-exists kinds-before kinds-order (drawings-of bs) s l (a .one) in
       let few = done-fewer kinds-before kinds-order (drawings-of bs) s l (m .codes) (x .0) (m .done) (x .1) in (
         x .0,

@@ -2,7 +2,7 @@
 use crate::bytes::two_bytes;
 
 // The place after the part at a place; no list comes near the wrap.
-pub fn after(list: &[u8], at: usize) -> usize {
+pub fn part_after(list: &[u8], at: usize) -> usize {
     let start = std::num::wrapping_add_usize(at, 2);
     std::num::wrapping_add_usize(start, two_bytes(list, at) as usize)
 }
@@ -10,7 +10,7 @@ pub fn after(list: &[u8], at: usize) -> usize {
 // The bytes of the part at a place; none where they are not all there.
 pub fn part_at<'a>(list: &'a [u8], at: usize) -> &'a [u8] {
     let start = std::num::wrapping_add_usize(at, 2);
-    let end = after(list, at);
+    let end = part_after(list, at);
     if start <= end && end <= list.len() {
         return &list[start..end];
     }

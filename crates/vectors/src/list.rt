@@ -1,15 +1,15 @@
 // The list of calls. A call is four parts: its name, its settings (which call, s, L, how many bytes are lent) and its two
 // arguments. Settings are numbers of two bytes, the low one first.
 use calls::run::run_call;
-use transcript::part::after;
+use transcript::part::part_after;
 use transcript::part::part_at;
 
 // Runs the call at a place and gives the place after it; the same place where no whole call is.
 fn run_next(list: &[u8], at: usize) -> usize {
-    let settings_at = after(list, at);
-    let first_at = after(list, settings_at);
-    let second_at = after(list, first_at);
-    let end = after(list, second_at);
+    let settings_at = part_after(list, at);
+    let first_at = part_after(list, settings_at);
+    let second_at = part_after(list, first_at);
+    let end = part_after(list, second_at);
     if list.len() < end {
         return at;
     }

@@ -28,7 +28,7 @@ use Rattle.least_code.specs.SearchCalls.{
   way-call,
   way-return,
   edge-placed,
-  edge-room,
+  edge-tie-room,
   Next-met,
   met-left,
   back-call,
@@ -309,7 +309,7 @@ room-at :
     (t : ℕ) (c : edges-lts.Else1 (edges-claims t) (edges-at t) edges.Post edges-Inv-loop edges-μ-loop)
     → let a = c .before .before .before .before .before .before .before .args in
     (a .given < 10) × (a .q < 9) × (c .before .next-tie .result < 10)
-room-at t c = edge-room (c .before .before .before .before .before .before .before .pre .1 .0 .1) (c .before .next-tie .result) (tie-at t c)
+room-at t c = edge-tie-room (c .before .before .before .before .before .before .before .pre .1 .0 .1) (c .before .next-tie .result) (tie-at t c)
 
 edges-give-number-requires : (t : ℕ) → edges-lts.Need-give-number-requires (edges-claims t) (edges-at t) edges.Post edges-Inv-loop edges-μ-loop
 edges-give-number-requires t c κs = room-at t (c .before .before .before)

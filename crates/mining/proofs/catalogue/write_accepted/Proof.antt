@@ -4,7 +4,7 @@ use lib.ListN.{length-replicate}
 use borrow.Author.Needs.{needs}
 use Rattle.growth.specs.Sizes.{labels-size, alphabet-size}
 use Rattle.walks.specs.LabelMarkLaws.{zeroed}
-use Rattle.mining.specs.WriteLaws.{tables-ready, writes-all, writes-none}
+use Rattle.mining.specs.WriteLaws.{tables-ready, writes-all, writes-empty}
 use Rattle.mining.proofs.catalogue.write_accepted.Statement.{statement}
 use Rattle.mining.proofs.catalogue.write_accepted.Tie as tie
 
@@ -53,7 +53,7 @@ returns-2 c =
     let m = c .before .before .before .before .before .before .before .before in
     let r = m .before .before .before .before .before in
     let s = r .before .before .before .before .before .before .before in
-    writes-none (s .pre) (r .rank-labels .result) (s .args .output .now) (m .write-patterns .last .1 .1 .1 .1 .1 .0) _
+    writes-empty (s .pre) (r .rank-labels .result) (s .args .output .now) (m .write-patterns .last .1 .1 .1 .1 .1 .0) _
     (rw (c .before .before .before .before .enum-told .given .1) at (m .write-patterns .ensures)) (m .write-patterns .kept .1 .1 .1 .1 .1 .0)
     (c .before .before .clear .ensures)
 

@@ -1,6 +1,7 @@
 -- Definitions.
 pub mod Searches
 -- Laws over them.
+pub mod Degrees
 pub mod SearchBest
 pub mod SearchLaws
 pub mod SearchWays

@@ -7,6 +7,7 @@ use Prim.Native.Nat.{ℕ, zero, suc, _+_, _≤_, _<_}
 use native.Mathlib.Nat.{not-suc-le-zero, le-of-suc-le-suc}
 use native.Mathlib.Omega.{arith}
 use lib.ListN.{length, getD}
+use Rattle.laws.specs.Lists.{snoc}
 use Rattle.laws.specs.Rows.{rows}
 use Rattle.graphs.specs.Drawing.{Cable, cable-in, cables-in, drawing-in}
 use Rattle.graphs.specs.Cables.{Joins, along, against, Has, Last, has-flip, has-first, last-cases}
@@ -16,7 +17,7 @@ use Rattle.codes.specs.CodeOrder.{kinds-order}
 use Rattle.codes.specs.CodeBytes.{recs-in-length}
 use Rattle.codes.specs.FirstRecord.{first-record}
 use Rattle.codes.specs.Greedy.{Fits}
-use Rattle.codes.specs.Searched.{Full, Chosen, chosen-best}
+use Rattle.codes.specs.Searched.{Best, Full, Chosen, chosen-best}
 use Rattle.codes.specs.BranchState.{first-state}
 use Rattle.records.specs.DrawingCables.{cable-at, cables-before}
 use Rattle.records.specs.CableLaws.{before-length, before-at, before-next}
@@ -32,14 +33,19 @@ use Rattle.least_code.specs.Searches.{
   Start-done,
   Starts,
   no-start,
-  Seen-before,
+  Cable-from,
+  Seen-in,
+  One-cable-more,
+  First-and-before,
 }
 use Rattle.least_code.specs.SearchBest.{best-begins, against-chosen}
 use Rattle.least_code.specs.SearchStarts.{
   start-passed,
   start-search,
   start-searched,
+  start-leaves,
   starts-best,
+  starts-fewer,
   starts-more,
   starts-least,
 }
@@ -99,9 +105,9 @@ has-at [] c z h = absurd (not-suc-le-zero h)
 has-at (x ∷ cs) zero z h = has-first x cs
 has-at (x ∷ cs) (suc c) z h = Has.there (has-at cs c z (le-of-suc-le-suc h))
 
--- THE WALK OVER THE CABLES: those before c are seen, both ways round, and the next one way round
-abbrev pub Seen-half : (bs : List ℕ) (c a b l u w k : ℕ) → Type 0
-Seen-half bs c a b l u w k = Seen-before bs c u w k ⊎ ((u ≡ a) × (w ≡ b) × (k ≡ l))
+-- A CABLE FROM EITHER END: other cables are seen, both ways round, and this one way round
+abbrev Seen-half : (seen : List Cable) (a b l u w k : ℕ) → Type 0
+Seen-half seen a b l u w k = Seen-in seen u w k ⊎ ((u ≡ a) × (w ≡ b) × (k ≡ l))
 
 module _ {bs table : List ℕ} {m : ℕ} (g : Given bs table m) where
   count-is : getD bs 1 0 ≡ m
@@ -111,43 +117,72 @@ module _ {bs table : List ℕ} {m : ℕ} (g : Given bs table m) where
   unfolding drawing-in
   cables-are = ap (λ (n : ℕ). cables-before n bs) count-is
 
-  pub none-seen : (best : List Rec) → best ≡ [] → Starts (drawing-in bs) best (Seen-before bs 0)
-  unfolding cables-in rows
-  none-seen best e = no-start e (λ u w k h. elim h [ ])
+module _ {bs table : List ℕ} {m c : ℕ} {best : List Rec} (s : Cable-from bs table m c best) (a b l : ℕ)
+    (is : record { a = a; b = b; kind = l } ≡ cable-at bs c) where
+  joined : Has a b l (drawing-in bs .cables)
+  joined =
+      rw (cables-are (s .given))
+      (subst (λ (x : Cable). Has (x .a) (x .b) (x .kind) (cables-before m bs)) (before-at m bs c (s .below) ∙ sym is)
+      (has-at (cables-before m bs) c (cable-in []) (rw (before-length m bs) (s .below))))
 
-  pub all-seen : (best : List Rec) (c : ℕ) → c ≡ m → Starts (drawing-in bs) best (Seen-before bs c) → Least (drawing-in bs) best
-  all-seen best c e t = starts-least (drawing-in bs) (g .pattern) best (Seen-before bs c) (λ u w k h. rw (e, ← cables-are) h) t
+  pub first-start : Start-from bs table m a b l best
+  first-start = record { given = s .given; has = joined; so-far = s .so-far }
 
-  module _ (c : ℕ) (low : c < m) (a b l : ℕ) (is : record { a = a; b = b; kind = l } ≡ cable-at bs c) where
-    joined : Has a b l (drawing-in bs .cables)
-    joined =
-        rw cables-are
-        (subst (λ (x : Cable). Has (x .a) (x .b) (x .kind) (cables-before m bs)) (before-at m bs c low ∙ sym is)
-        (has-at (cables-before m bs) c (cable-in []) (rw (before-length m bs) low)))
+  module _ (mid : List Rec) (there : Start-done (drawing-in bs) a b l best mid) where
+    pub second-start : Start-from bs table m b a l mid
+    second-start =
+        record { given = s .given; has = has-flip joined; so-far = start-leaves (drawing-in bs) a b l best mid (s .so-far) there }
 
-    module _ (best : List Rec) (t : Starts (drawing-in bs) best (Seen-before bs c)) where
-      pub first-start : Start-from bs table m a b l best
-      first-start = record { given = g; has = joined; so-far = starts-best (drawing-in bs) best (Seen-before bs c) t }
+    split :
+        (seen : List Cable) (u w k : ℕ) → Seen-in (snoc seen (cable-at bs c)) u w k → Seen-half seen a b l u w k ⊎ ((u ≡ b) × (w ≡ a) × (k ≡ l))
+    split seen u w k h = go (last-cases seen (rw (← is) at h))
+      where
+        way : Joins u w (record { a = a; b = b; kind = l }) → l ≡ k → Seen-half seen a b l u w k ⊎ ((u ≡ b) × (w ≡ a) × (k ≡ l))
+        way (along p q) e = inl (inr (sym p, sym q, sym e))
+        way (against p q) e = inr (sym q, sym p, sym e)
 
-      pub first-seen : (mid : List Rec) → Start-done (drawing-in bs) a b l best mid → Starts (drawing-in bs) mid (Seen-half bs c a b l)
-      first-seen mid z = starts-more (drawing-in bs) best mid (Seen-before bs c) (Seen-half bs c a b l) a b l (λ u w k h. h) t z
+        go :
+            Has u w k seen ⊎ Last u w k (record { a = a; b = b; kind = l })
+            → Seen-half seen a b l u w k ⊎ ((u ≡ b) × (w ≡ a) × (k ≡ l))
+        go (inl z) = inl (inl z)
+        go (inr z) = way (z .joins) (z .kind)
 
-    module _ (mid : List Rec) (t : Starts (drawing-in bs) mid (Seen-half bs c a b l)) where
-      pub second-start : Start-from bs table m b a l mid
-      second-start = record { given = g; has = has-flip joined; so-far = starts-best (drawing-in bs) mid (Seen-half bs c a b l) t }
+    pub both-seen : (after : List Rec) → Start-done (drawing-in bs) b a l mid after → One-cable-more bs c best after
+    both-seen after back seen t =
+        starts-more (drawing-in bs) mid after (Seen-half seen a b l) (Seen-in (snoc seen (cable-at bs c))) b a l (split seen)
+        (starts-more (drawing-in bs) best mid (Seen-in seen) (Seen-half seen a b l) a b l (λ u w k h. h) t there) back
 
-      split : (u w k : ℕ) → Seen-before bs (c + 1) u w k → Seen-half bs c a b l u w k ⊎ ((u ≡ b) × (w ≡ a) × (k ≡ l))
-      split u w k h = go (last-cases (cables-before c bs) (rw (before-next c bs, ← is) at h))
-        where
-          way : Joins u w (record { a = a; b = b; kind = l }) → l ≡ k → Seen-half bs c a b l u w k ⊎ ((u ≡ b) × (w ≡ a) × (k ≡ l))
-          way (along p q) e = inl (inr (sym p, sym q, sym e))
-          way (against p q) e = inr (sym q, sym p, sym e)
+-- THE WALK OVER THE CABLES: one cable first, then those before c
+pub none-best : (bs : List ℕ) (best : List Rec) → best ≡ [] → Best kinds-before kinds-order (drawing-in bs) [] best
+none-best bs best e = record { rest = best; is = refl; whole = inl e }
 
-          go :
-              Has u w k (cables-before c bs) ⊎ Last u w k (record { a = a; b = b; kind = l })
-              → Seen-half bs c a b l u w k ⊎ ((u ≡ b) × (w ≡ a) × (k ≡ l))
-          go (inl z) = inl (inl z)
-          go (inr z) = way (z .joins) (z .kind)
+pub first-seen : (bs : List ℕ) (first : ℕ) (best after : List Rec) → best ≡ [] → One-cable-more bs first best after
+    → Starts (drawing-in bs) after (Seen-in (First-and-before bs first 0))
+unfolding cables-in rows
+first-seen bs first best after e z = z [] (no-start e (λ u w k h. elim h [ ]))
 
-      pub second-seen : (after : List Rec) → Start-done (drawing-in bs) b a l mid after → Starts (drawing-in bs) after (Seen-before bs (c + 1))
-      second-seen after z = starts-more (drawing-in bs) mid after (Seen-half bs c a b l) (Seen-before bs (c + 1)) b a l split t z
+module _ (bs : List ℕ) (first c : ℕ) (best : List Rec) (t : Starts (drawing-in bs) best (Seen-in (First-and-before bs first c))) where
+  pub seen-best : Best kinds-before kinds-order (drawing-in bs) [] best
+  seen-best = starts-best (drawing-in bs) best (Seen-in (First-and-before bs first c)) t
+
+  pub next-seen : (after : List Rec) → One-cable-more bs c best after
+      → Starts (drawing-in bs) after (Seen-in (First-and-before bs first (c + 1)))
+  next-seen after z = rw (before-next c bs) (z (First-and-before bs first c) t)
+
+  -- the first one stands for itself
+  pub skip-seen : c ≡ first → Starts (drawing-in bs) best (Seen-in (First-and-before bs first (c + 1)))
+  skip-seen e =
+      starts-fewer (drawing-in bs) best (Seen-in (First-and-before bs first c)) (Seen-in (First-and-before bs first (c + 1))) fewer t
+    where
+      old : (u w k : ℕ) → Has u w k (cables-before c bs) ⊎ Last u w k (cable-at bs c) → Has u w k (First-and-before bs first c)
+      old u w k (inl z) = Has.there z
+      old u w k (inr z) = Has.here {c = cable-at bs first} (rw (← e) (z .joins)) (rw (← e) (z .kind))
+
+      fewer : (u w k : ℕ) → Has u w k (First-and-before bs first (c + 1)) → Has u w k (First-and-before bs first c)
+      fewer u w k (Has.here j q) = Has.here j q
+      fewer u w k (Has.there h) = old u w k (last-cases (cables-before c bs) (rw (before-next c bs) at h))
+
+  pub all-seen : {table : List ℕ} {m : ℕ} → Given bs table m → c ≡ m → Least (drawing-in bs) best
+  all-seen g e =
+      starts-least (drawing-in bs) (g .pattern) best (Seen-in (First-and-before bs first c))
+      (λ u w k h. Has.there (rw (e, ← cables-are g) h)) t

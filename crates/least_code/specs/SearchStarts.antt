@@ -103,6 +103,30 @@ pub starts-best : (d : Drawing) (best : List Rec) (Seen : (u w k : ℕ) → Type
 starts-best d best Seen (no-start e n) = record { rest = best; is = refl; whole = inl e }
 starts-best d best Seen (some-start t) = record { rest = best; is = refl; whole = inr (t .full, t .fits) }
 
+-- a start leaves a best code
+pub start-leaves :
+    (d : Drawing) (u w k : ℕ) (best after : List Rec) → Best kinds-before kinds-order d [] best → Start-done d u w k best after
+    → Best kinds-before kinds-order d [] after
+start-leaves d u w k best after b (passed c rest is z a) = rw a b
+start-leaves d u w k best after b (searched first c z) = record { rest = after; is = refl; whole = inr (z .full, z .fits) }
+
+-- fewer are seen where more are
+pub starts-fewer :
+    (d : Drawing) (best : List Rec) (Seen Fewer : (u w k : ℕ) → Type 0) → ((u w k : ℕ) → Fewer u w k → Seen u w k) → Starts d best Seen
+    → Starts d best Fewer
+starts-fewer d best Seen Fewer all (no-start e n) = no-start e (λ u w k h. n u w k (all u w k h))
+starts-fewer d best Seen Fewer all (some-start t) =
+    some-start
+    record {
+      r = t .r;
+      tail = t .tail;
+      is = t .is;
+      full = t .full;
+      fits = t .fits;
+      first = λ u w k h. t .first u w k (all u w k h);
+      runs = λ u w k h. t .runs u w k (all u w k h);
+    }
+
 -- one more
 module _ (d : Drawing) (best after : List Rec) (Seen More : (u w k : ℕ) → Type 0) (u w k : ℕ)
     (split : (a b l : ℕ) → More a b l → Seen a b l ⊎ ((a ≡ u) × (b ≡ w) × (l ≡ k))) where

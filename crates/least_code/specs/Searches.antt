@@ -6,7 +6,7 @@ use mathlib.Core.List.{List, [], _∷_, _++_}
 use Prim.Native.Nat.{ℕ, _+_, _≤_, _<_}
 use lib.ListN.{length}
 use Rattle.laws.specs.Lists.{snoc}
-use Rattle.graphs.specs.Drawing.{Drawing, drawing-in, drawing-refusal}
+use Rattle.graphs.specs.Drawing.{Cable, Drawing, drawing-in, drawing-refusal}
 use Rattle.graphs.specs.Cables.{Has}
 use Rattle.graphs.specs.Graph.{Pattern}
 use Rattle.codes.specs.Code.{Rec, fresh, recs-in, read-rows, kinds-before, rec-before}
@@ -16,7 +16,7 @@ use Rattle.codes.specs.Tight.{Tight}
 use Rattle.codes.specs.Searched.{Best, Searched, Ties, Chosen}
 use Rattle.codes.specs.Started.{Started}
 use Rattle.codes.specs.BranchState.{Labels, State, numbering, Represents}
-use Rattle.records.specs.DrawingCables.{cables-before}
+use Rattle.records.specs.DrawingCables.{cable-at, cables-before}
 use Rattle.tables.specs.declared.«record».Order.{Order}
 use Rattle.tables.specs.declared.«record».Order.the-variants.{Before, Equal, After}
 use Rattle.branches.specs.declared.extension.Extension.{Extension}
@@ -101,6 +101,21 @@ pub data Starts (d : Drawing) (best : List Rec) (Seen : (u w k : ℕ) → Type 0
   no-start : best ≡ [] → ((u w k : ℕ) → Seen u w k → ⊥) → Starts d best Seen
   some-start : Started kinds-before kinds-order d best Seen → Starts d best Seen
 
--- the cables before c are seen, both ways round
-abbrev pub Seen-before : (bs : List ℕ) (c u w k : ℕ) → Type 0
-Seen-before bs c u w k = Has u w k (cables-before c bs)
+-- a cable from either end
+pub record Cable-from (bs table : List ℕ) (m c : ℕ) (best : List Rec) : Type 0 where
+  pub given : Given bs table m
+  pub below : c < m
+  pub so-far : Best kinds-before kinds-order (drawing-in bs) [] best
+
+-- some cables are seen, both ways round
+abbrev pub Seen-in : (seen : List Cable) (u w k : ℕ) → Type 0
+Seen-in seen u w k = Has u w k seen
+
+-- and cable c too, whichever they are
+abbrev pub One-cable-more : (bs : List ℕ) (c : ℕ) (best after : List Rec) → Type 0
+One-cable-more bs c best after =
+    (seen : List Cable) → Starts (drawing-in bs) best (Seen-in seen) → Starts (drawing-in bs) after (Seen-in (snoc seen (cable-at bs c)))
+
+-- a first cable and those before c
+abbrev pub First-and-before : (bs : List ℕ) (first c : ℕ) → List Cable
+First-and-before bs first c = cable-at bs first ∷ cables-before c bs

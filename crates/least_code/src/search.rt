@@ -2,6 +2,7 @@
 use crate::below::search_first;
 use crate::best::choose_at;
 use crate::best::order_at;
+use crate::busy::busiest;
 use branches::next::first_record;
 use records::cable::Cable;
 use records::code::Code;
@@ -11,13 +12,12 @@ use tables::table::CELLS;
 use tables::table::labels_of_drawing;
 use tables::twins::twins_of;
 ghost use mathlib.Core.Path.{_≡_};
-ghost use Prim.Native.Nat.{_+_, _<_};
 ghost use lib.ListN.{length, getD};
 ghost use Rattle.graphs.specs.Drawing.{drawing-in, drawing-refusal};
 ghost use Rattle.codes.specs.Code.{recs-in, Least};
 ghost use Rattle.codes.specs.Twins.{Twins-noted};
 ghost use Rattle.readings.specs.Readings.{held-records};
-ghost use Rattle.least_code.specs.Searches.{Given, Start-from, Start-done, Starts, Seen-before};
+ghost use Rattle.least_code.specs.Searches.{Start-from, Start-done, Cable-from, One-cable-more};
 
 // All codes that begin with a cable from its end a to its end b, against the best so far. Any cable can begin a code, so a
 // first record after the best's says that none of them is less.
@@ -46,7 +46,7 @@ fn start(
     search_first(drawing, table, twins, m, u, w, best, kept)
 }
 
-// The same from either end of cable c, where every cable before it has been seen so.
+// The same from either end of cable c, whichever cables have been seen so before it.
 fn start_either(
     drawing: &[u8],
     table: &[u32; CELLS],
@@ -56,10 +56,9 @@ fn start_either(
     best: &mut [u8; Code::BYTES],
     held: usize,
 ) -> usize
-    requires { ⌜ Given (now drawing) (now table) m × (c < m)
-        × Starts (drawing-in (now drawing)) (recs-in held (now best)) (Seen-before (now drawing) c)
+    requires { ⌜ Cable-from (now drawing) (now table) m c (recs-in held (now best))
         × Twins-noted (now table) (now twins) × (length (now best) ≡ 100) ⌝ }
-    ensures { λ r. ⌜ Starts (drawing-in (now (drawing .entry))) (recs-in r (now (best .exit))) (Seen-before (now (drawing .entry)) (c + 1))
+    ensures { λ r. ⌜ One-cable-more (now (drawing .entry)) c (recs-in held (now (best .entry))) (recs-in r (now (best .exit)))
         × (length (now (best .exit)) ≡ 100) ⌝ }
 {
     let cable = Cable::at(drawing, c);
@@ -72,7 +71,7 @@ fn start_either(
     start(drawing, table, twins, m, turned, best, kept)
 }
 
-// The least code of an accepted drawing of m cables: each of them begins one, from either end.
+// The least code of an accepted drawing of m cables: each of them begins one, from either end, the busiest first.
 pub fn least_code(drawing: &[u8], m: usize) -> Code
     requires { ⌜ (drawing-refusal (now drawing) ≡ 0) × (m ≡ getD (now drawing) 1 0) ⌝ }
     ensures { λ r. ⌜ Least (drawing-in (now (drawing .entry))) (held-records r) ⌝ }
@@ -80,9 +79,12 @@ pub fn least_code(drawing: &[u8], m: usize) -> Code
     let table = labels_of_drawing(drawing);
     let twins = twins_of(&table);
     let mut records = [0; Code::BYTES];
-    let mut held = 0;
+    let busy = busiest(drawing, m);
+    let mut held = start_either(drawing, &table, &twins, m, busy, &mut records, 0);
     for c in 0..m {
-        held = start_either(drawing, &table, &twins, m, c, &mut records, held);
+        if c != busy {
+            held = start_either(drawing, &table, &twins, m, c, &mut records, held);
+        }
     }
     Code {
         records,

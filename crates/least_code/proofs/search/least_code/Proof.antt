@@ -1,5 +1,7 @@
--- `search::least_code` meets its contract. The invariant: the cables before c are seen, both ways round. Assumes nothing.
+-- `search::least_code` meets its contract. The invariant: the busiest cable and those before c are seen, both ways round.
+-- Assumes nothing.
 use mathlib.Core.Path.{_≡_, refl, sym, _∙_}
+use mathlib.Core.Logic.{⊎-elim}
 use Prim.Native.Nat.{_-_, _≤_}
 use native.Mathlib.Omega.{arith}
 use lib.ListN.{length}
@@ -8,17 +10,17 @@ use Rattle.graphs.specs.Drawing.{drawing-in}
 use Rattle.graphs.specs.Patterns.{accepted-parts}
 use Rattle.codes.specs.Code.{recs-in}
 use Rattle.tables.specs.TableOfDrawing.{record-pattern}
-use Rattle.least_code.specs.Searches.{Given, Starts, Seen-before}
-use Rattle.least_code.specs.SearchStartCalls.{no-rows, none-seen, all-seen}
+use Rattle.least_code.specs.Searches.{Given, Starts, Seen-in, First-and-before}
+use Rattle.least_code.specs.SearchStartCalls.{no-rows, none-best, first-seen, seen-best, next-seen, skip-seen, all-seen}
 use Rattle.least_code.proofs.search.least_code.Statement.{statement}
 use Rattle.least_code.proofs.search.least_code.Tie as tie
 
 abbrev Inv-loop : tie.InvT-loop
-Inv-loop drawing m table twins records₀ held₀ c₀ records held c =
-    (c ≤ m) × (length records ≡ 100) × Starts (drawing-in drawing) (recs-in held records) (Seen-before drawing c)
+Inv-loop drawing m table twins records₀ busy held₀ c₀ records held c =
+    (c ≤ m) × (length records ≡ 100) × Starts (drawing-in drawing) (recs-in held records) (Seen-in (First-and-before drawing busy c))
 
 abbrev μ-loop : tie.MeasureT-loop
-μ-loop drawing m table twins records₀ held₀ c₀ records held c = m - c
+μ-loop drawing m table twins records₀ busy held₀ c₀ records held c = m - c
 
 labels-of-drawing-requires : tie.Need-labels-of-drawing-requires Inv-loop μ-loop
 labels-of-drawing-requires c κs = c .before .pre .0
@@ -40,31 +42,62 @@ given-at c =
 twins-of-requires : tie.Need-twins-of-requires Inv-loop μ-loop
 twins-of-requires c κs = search needs
 
-loop-holds : tie.Need-loop-holds Inv-loop μ-loop
-loop-holds c = (search needs, refl, none-seen (given-at (c .before .before)) _ (no-rows _))
+busiest-requires : tie.Need-busiest-requires Inv-loop μ-loop
+busiest-requires c κs = search needs
 
 start-either-requires : tie.Need-start-either-requires Inv-loop μ-loop
 start-either-requires c κs =
-    let i = c .before .before .before in
+    let b = c .before .before .before in (
+      record { given = given-at (b .before .before .before); below = b .busiest .ensures; so-far = none-best _ _ (no-rows _) },
+      b .before .twins-of .ensures,
+      refl,
+    )
+
+loop-holds : tie.Need-loop-holds Inv-loop μ-loop
+loop-holds c =
+    let e = c .start-either .ensures in
+    (search needs, e .1, first-seen _ _ _ _ (no-rows _) (e .0))
+
+start-either-requires-2 : tie.Need-start-either-requires-2 Inv-loop μ-loop
+start-either-requires-2 c κs =
+    let i = c .before .before .before .before in
     let l = i .before in
-    (given-at (l .before .before .before), i .loop-test .taken, l .loop .inv .2, l .before .twins-of .ensures, l .loop .inv .1)
+    let b = l .before .before .before .before .before in (
+      record {
+        given = given-at (b .before .before .before);
+        below = i .loop-test .taken;
+        so-far = seen-best _ (b .busiest .result) (l .loop .c) _ (l .loop .inv .2);
+      },
+      b .before .twins-of .ensures,
+      l .loop .inv .1,
+    )
 
 add-c : tie.Need-add-c Inv-loop μ-loop
 add-c c =
-    let i = c .before .before .before .before in
-    let s = i .before .before .before .before .before .before in
-    omega (arith, i .loop-test .taken, s .fits .m)
+    let i = c .before in
+    omega (arith, i .loop-test .taken, i .before .before .before .before .before .before .before .before .before .before .before .fits .m)
 
 loop-less : tie.Need-loop-less Inv-loop μ-loop
 loop-less c = search needs
 
 loop-again : tie.Need-loop-again Inv-loop μ-loop
-loop-again c = (search needs, c .start-either .ensures .1, c .start-either .ensures .0)
+loop-again c =
+    let l = c .before .before in
+    let busy = l .before .before .before .before .before .busiest .result in (
+      search needs,
+      ⊎-elim (λ w. rw (w .5) (w .4 .ensures .1)) (λ w. rw (w .1) (l .loop .inv .1)) (c .if1 .came),
+      ⊎-elim
+          (λ w. rw (w .5, w .6) (next-seen _ busy (l .loop .c) _ (l .loop .inv .2) _ (w .4 .ensures .0)))
+          (λ w. rw (w .1, w .2) (skip-seen _ busy (l .loop .c) _ (l .loop .inv .2) (omega (arith, w .0 .left))))
+          (c .if1 .came),
+    )
 
 returns : tie.Need-returns Inv-loop μ-loop
 returns c =
     let l = c .before in
-    all-seen (given-at (l .before .before .before)) _ (l .loop .c) (omega (arith, l .loop .inv .0, c .loop-test .left)) (l .loop .inv .2)
+    let b = l .before .before .before .before .before in
+    all-seen _ (b .busiest .result) (l .loop .c) _ (l .loop .inv .2) (given-at (b .before .before .before))
+    (omega (arith, l .loop .inv .0, c .loop-test .left))
 
 pub least-code-spec : {M : Type 1} → statement M
 least-code-spec =
@@ -74,8 +107,10 @@ least-code-spec =
     μ-loop
     labels-of-drawing-requires
     twins-of-requires
-    loop-holds
+    busiest-requires
     start-either-requires
+    loop-holds
+    start-either-requires-2
     add-c
     loop-less
     loop-again

@@ -1,10 +1,12 @@
 -- Cables as relations: a pair is joined either way round, by a cable of some kind. Assumes nothing.
-use mathlib.Core.Path.{_≡_, refl, sym, _∙_}
-use mathlib.Core.Bool.{Bool, true, false, _&&_, _||_, false≢true}
+use mathlib.Core.Path.{_≡_, refl, sym}
+use mathlib.Core.Bool.{true, false, _&&_, false≢true}
 use mathlib.Core.List.{List, [], _∷_, _++_}
 use mathlib.Core.Logic.{_⊎_, inl, inr}
-use Prim.Native.Nat.{ℕ}
+use Prim.Native.Nat.{ℕ, zero, suc, _<_}
+use native.Mathlib.Omega.{arith}
 use lib.Dec.{eqb}
+use lib.ListN.{length, getD}
 use borrow.Author.Tests.{eqb-true, eq-eqb}
 use Rattle.laws.specs.Tests.{and-split, and-both, or-cases, or-left, or-right}
 use Rattle.laws.specs.Lists.{Mem, snoc}
@@ -129,3 +131,9 @@ pub mem-to-test : (v : ℕ) (xs : List ℕ) → Mem v xs → member v xs ≡ tru
 unfolding member
 mem-to-test v xs (Mem.here {x = x} {xs = ys} e) = or-left (member v ys) (eq-eqb x v e)
 mem-to-test v xs (Mem.there {x = x} {xs = ys} m) = or-right (eqb x v) (mem-to-test v ys m)
+
+-- A CABLE AT ITS PLACE in the list joins its ends
+pub has-at : (cs : List Cable) (m : ℕ) (z : Cable) → m < length cs → Has (getD cs m z .a) (getD cs m z .b) (getD cs m z .kind) cs
+has-at [] m z h = absurd (omega arith)
+has-at (c ∷ cs) zero z h = Has.here (along refl refl) refl
+has-at (c ∷ cs) (suc m) z h = Has.there (has-at cs m z (omega arith))

@@ -3,14 +3,13 @@
 use mathlib.Core.Path.{_≡_, refl, sym, ap, _∙_, subst}
 use mathlib.Core.List.{List, [], _∷_}
 use mathlib.Core.Logic.{_⊎_, inl, inr}
-use Prim.Native.Nat.{ℕ, zero, suc, _+_, _≤_, _<_}
-use native.Mathlib.Nat.{not-suc-le-zero, le-of-suc-le-suc}
+use Prim.Native.Nat.{ℕ, _+_, _≤_}
 use native.Mathlib.Omega.{arith}
 use lib.ListN.{length, getD}
 use Rattle.laws.specs.Lists.{snoc}
 use Rattle.laws.specs.Rows.{rows}
 use Rattle.graphs.specs.Drawing.{Cable, cable-in, cables-in, drawing-in}
-use Rattle.graphs.specs.Cables.{Joins, along, against, Has, Last, has-flip, has-first, last-cases}
+use Rattle.graphs.specs.Cables.{Joins, along, against, Has, Last, has-flip, last-cases, has-at}
 use Rattle.graphs.specs.Patterns.{accepted-parts}
 use Rattle.codes.specs.Code.{Rec, recs-in, kinds-before, Least}
 use Rattle.codes.specs.CodeOrder.{kinds-order}
@@ -98,12 +97,6 @@ module _ {bs table : List ℕ} {m u w k : ℕ} (best : List ℕ) (held : ℕ) (s
           → Start-done (drawing-in bs) u w k (recs-in held best) after
       start-return after z =
           start-searched s (recs-in kept first) chosen after (rw first-row at z)
-
--- a cable of a list, by its place
-has-at : (cs : List Cable) (c : ℕ) (z : Cable) → c < length cs → Has (getD cs c z .a) (getD cs c z .b) (getD cs c z .kind) cs
-has-at [] c z h = absurd (not-suc-le-zero h)
-has-at (x ∷ cs) zero z h = has-first x cs
-has-at (x ∷ cs) (suc c) z h = Has.there (has-at cs c z (le-of-suc-le-suc h))
 
 -- A CABLE FROM EITHER END: other cables are seen, both ways round, and this one way round
 abbrev Seen-half : (seen : List Cable) (a b l u w k : ℕ) → Type 0

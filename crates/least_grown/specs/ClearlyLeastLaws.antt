@@ -2,12 +2,12 @@
 -- no start comes before it. Rests on OwnStartLaws and LeastStarts. Assumes nothing.
 use mathlib.Core.Path.{_≡_, refl, sym, ap, _∙_, subst}
 use mathlib.Core.Bool.{Bool}
-use mathlib.Core.List.{List, [], _∷_, _++_, map}
+use mathlib.Core.List.{List, [], _∷_, _++_}
 use mathlib.Core.Logic.{_⊎_, inl, inr}
 use Prim.Native.Nat.{ℕ, zero, suc, _/_, _≤_, _<_}
 use native.Mathlib.Omega.{arith}
 use native.Mathlib.Decide.{decLt}
-use lib.ListN.{length, getD, take, drop, length-map, List·getD-map}
+use lib.ListN.{length, getD, take, drop}
 use lib.Seq.{length-take-le, getD-take}
 use Rattle.laws.specs.Decides.{Decides}
 use Rattle.laws.specs.Rows.{row}
@@ -22,11 +22,10 @@ use Rattle.codes.specs.FullCode.{decoded-simple}
 use Rattle.codes.specs.BranchState.{first-state}
 use Rattle.codes.specs.OwnNumbering.{Well-grown}
 use Rattle.tables.specs.CodeRows.{code-record-at, record-accepted}
-use Rattle.tables.specs.CodeCables.{decoded-cables-are, record-i-kind, record-j-kind}
+use Rattle.tables.specs.CodeCables.{row-cable, record-i-kind, record-j-kind}
 use Rattle.least_seen.specs.Betters.{Better-below, Begins-better, Some-start}
 use Rattle.least_test.specs.StartNumbers.{Numbers-labels}
 use Rattle.least_test.specs.LeastStarts.{
-  has-at,
   seen-along,
   seen-against,
   start-asks,
@@ -46,12 +45,6 @@ alike-of {r} {s} {e} {f} {b} p q d =
     subst (λ (z : Rec). Decides b (Alike-seen s z)) q (subst (λ (z : Rec). Decides b (Alike-seen z e)) p d)
 
 -- EARLIER RECORDS: the devices of one are below the device that a forward record brings
-cable-of-row : (γ : List Rec) (p : ℕ) (e : Rec) → p < length γ → getD γ p e ≡ e → Has (e .i) (e .j) (e .c) (decoded γ .cables)
-unfolding cable-of
-cable-of-row γ p e h is =
-    rw (decoded-cables-are γ)
-    (rw (List·getD-map cable-of γ p e ∙ ap cable-of is) at (has-at (map cable-of γ) p (cable-of e) (rw (length-map γ cable-of) h)))
-
 earlier-low :
     (γ : List Rec) (s : Rec) (ss : List Rec) → rows-refusal fresh (γ ++ s ∷ ss) ≡ 0 → s .i < s .j → (p : ℕ) (e : Rec) → p < length γ
     → getD γ p e ≡ e → (e .i < s .j) × (e .j < s .j)
@@ -72,7 +65,7 @@ earlier-low (g ∷ γ) s ss ok up p e h is = go (step-from-test x v s (c .step) 
     c = rows-cons (read-rows fresh (g ∷ γ)) s ss (divided .1)
 
     has : Has (e .i) (e .j) (e .c) (decoded (g ∷ γ) .cables)
-    has = cable-of-row (g ∷ γ) p e h is
+    has = row-cable (g ∷ γ) p e h is
 
     go : Step (read-rows fresh (g ∷ γ)) s → (e .i < s .j) × (e .j < s .j)
     go (steps-back o a b) = absurd (omega (arith, o .down))

@@ -4,14 +4,14 @@ use mathlib.Core.Path.{_≡_, refl, sym, ap, _∙_, subst}
 use mathlib.Core.Bool.{true}
 use mathlib.Core.List.{List, [], _∷_}
 use mathlib.Core.Logic.{inl, inr}
-use Prim.Native.Nat.{ℕ, zero, suc, _+_, _/_, _≤_, _<_}
+use Prim.Native.Nat.{ℕ, suc, _+_, _/_, _≤_, _<_}
 use native.Mathlib.Omega.{arith}
 use native.Mathlib.Decide.{decLt}
 use lib.ListN.{length, getD, take, drop}
 use Rattle.laws.specs.Tests.{false-unless}
 use Rattle.laws.specs.Rows.{row}
 use Rattle.graphs.specs.Drawing.{Cable, Drawing, devices, kind}
-use Rattle.graphs.specs.Cables.{Joins, along, against, Has, has-flip}
+use Rattle.graphs.specs.Cables.{Joins, along, against, Has, has-flip, has-at}
 use Rattle.graphs.specs.Graph.{Simple, Pattern}
 use Rattle.codes.specs.Code.{Rec, fresh, rows-refusal, rec-in, cable-of, kinds-before, rec-before, decoded, rows-good, code-refusal, Least}
 use Rattle.codes.specs.CodeOrder.{rec-eq, rec-before-strict, kinds-order}
@@ -51,11 +51,6 @@ cable-place (c ∷ cs) (Has.here j e) = record { at = 0; below = omega arith; jo
 cable-place (c ∷ cs) (Has.there h) =
     let p = cable-place cs h in
     record { at = suc (p .at); below = omega (arith, p .below); joins = p .joins; kind-is = p .kind-is }
-
-pub has-at : (cs : List Cable) (m : ℕ) (z : Cable) → m < length cs → Has (getD cs m z .a) (getD cs m z .b) (getD cs m z .kind) cs
-has-at [] m z h = absurd (omega arith)
-has-at (c ∷ cs) zero z h = Has.here (along refl refl) refl
-has-at (c ∷ cs) (suc m) z h = Has.there (has-at cs m z (omega arith))
 
 -- THE FIRST RECORD of a cable seen from one end
 abbrev pub begins : Rec → Rec

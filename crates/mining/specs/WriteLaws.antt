@@ -1,25 +1,21 @@
 -- Writing the catalogue of an accepted survey, and the refusals before it. Rests on SurveyMined and Catalogues. Assumes nothing.
 use mathlib.Core.Path.{_≡_, refl, sym, ap, _∙_, subst}
-use mathlib.Core.Bool.{Bool, true, false, _&&_, not, cond}
-use mathlib.Core.List.{List, [], _∷_, _++_, map}
+use mathlib.Core.Bool.{Bool, false, _&&_, not, cond}
+use mathlib.Core.List.{List, _++_, map}
 use mathlib.Core.Logic.{_⊎_, inl, inr}
 use Prim.Native.Nat.{ℕ, zero, suc, _+_, _*_, _≤_, _<_}
 use native.Mathlib.Omega.{arith}
 use lib.Dec.{ltb, leb}
-use lib.ListN.{length, drop, replicate, length-map, length-append}
+use lib.ListN.{length, drop, replicate, length-map}
 use borrow.Author.Tests.{lt-ltb, le-ltb, le-leb, lt-leb}
 use Rattle.laws.specs.Lists.{Mem}
 use Rattle.laws.specs.Rows.{concat-length}
-use Rattle.laws.specs.Selections.{Sent, map-from}
-use Rattle.graphs.specs.Drawing.{Drawing}
 use Rattle.graphs.specs.Survey as surveys
 use Rattle.graphs.specs.Survey.{survey, survey-refusal, bytes-refusal, refusal}
-use Rattle.codes.specs.Code.{Rec, kinds-before}
+use Rattle.codes.specs.Code.{kinds-before}
 use Rattle.codes.specs.CodeOrder.{kinds-order}
 use Rattle.growth.specs.Catalogue.{Entry, Catalogue, entry-bytes, all-bytes}
 use Rattle.growth.specs.Catalogues.{entry-for, listed-catalogue, catalogue-exists}
-use Rattle.growth.specs.Growth.{Listed}
-use Rattle.growth.specs.Frequent.{Frequent}
 use Rattle.growth.specs.Places.{Ranks}
 use Rattle.growth.specs.Output.{done-fewer}
 use Rattle.records.specs.declared.refusal.Refusal.{Refusal}
@@ -31,15 +27,13 @@ use Rattle.records.specs.declared.refusal.Refusal.the-variants.{OutputLength, T
 use Rattle.laws.specs.Lent.{in-front}
 use Rattle.records.specs.declared.catalogued.Catalogued.{Catalogued}
 use Rattle.records.specs.declared.catalogued.Catalogued.the-variants.{Entries, Refused}
-use Rattle.growing.specs.declared.grow.Growth.{Growth}
 use Rattle.growing.specs.declared.grow.Growth.the-variants.{To, Full}
-use Rattle.growing.specs.declared.grow.Settings.{Settings}
 use Rattle.records.specs.Catalogued.{catalogued-refusal}
 use Rattle.mining.specs.CatalogueSays.{Entries-written, Catalogue-as, Catalogue-says}
 use Rattle.walks.specs.LabelMarks.{drawings-of}
 use Rattle.walks.specs.DrawingTables.{Tables}
+use Rattle.walks.specs.LabelBits.{Bits-noted}
 use Rattle.growth.specs.EntryLaws.{entries-sized}
-use Rattle.growing.specs.GrowthOutcomes.{Lists-more, Too-many}
 use Rattle.survey_patterns.specs.SurveyMined.{Can-mine, Mined}
 
 -- the settings and the survey are accepted
@@ -57,10 +51,15 @@ Writes bs s l o r z = (es : List Entry) × Catalogue (drawings-of bs) s l es × 
 -- THE TABLES AT HAND
 pub tables-ready :
     {bs labels rank alphabet : List ℕ} {n s l : ℕ} → Accepted-call bs s l → Tables bs labels → Ranks (drawings-of bs) rank alphabet n
-    → Can-mine bs labels rank alphabet (record { labels = n; threshold = s; limit = l })
-tables-ready a t o =
+    → Bits-noted bs labels rank n → Can-mine bs labels rank alphabet (record { labels = n; threshold = s; limit = l })
+tables-ready a t o b =
     record {
-      set-up = record { prepared = record { accepted = a .accepted; tables = t; ranks = o }; one = a .one; most = a .most; small = a .small };
+      set-up = record {
+        prepared = record { accepted = a .accepted; tables = t; ranks = o; bits = b };
+        one = a .one;
+        most = a .most;
+        small = a .small;
+      };
       some = a .some;
     }
 

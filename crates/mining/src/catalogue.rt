@@ -13,6 +13,7 @@ use records::refusal::Refusal;
 use records::survey::Survey;
 use records::survey::SurveyChecked;
 use survey_patterns::mine::mine;
+use surveys::bits::note_bits;
 use surveys::labels::TABLES;
 use surveys::labels::fill_labels;
 use surveys::ranks::ALPHABET;
@@ -65,6 +66,7 @@ fn write_accepted(survey: &[u8], threshold: usize, limit: usize, output: &mut [u
     let mut rank = [0; LABELS];
     let mut alphabet = [0; ALPHABET];
     let n = rank_labels(survey, &mut rank, &mut alphabet);
+    note_bits(survey, &mut labels, &rank, n);
     let settings = Settings {
         labels: n,
         threshold,

@@ -17,12 +17,14 @@ ghost use Rattle.walks.specs.Slots.{slot-at, drawing-slots, drawing-ends};
 ghost use Rattle.walks.specs.SlotsMade.{Low-labels};
 ghost use Rattle.walks.specs.DrawingTables.{Drawing-put, Tables};
 
-// For each drawing that a survey may have a table of labels; then the slots of each; then where the slots' groups end.
-pub const TABLES: usize = 3 * Survey::MOST_DRAWINGS * CELLS;
+// For each drawing that a survey may have a table of labels; then the slots of each; then where the slots' groups end; then the
+// bit of each label, where the survey has few labels.
+pub const TABLES: usize = 4 * Survey::MOST_DRAWINGS * CELLS;
 
-// Puts a table into place d: first the tables of labels have theirs, then the slots, then the ends.
-fn put_table(table: &[u32; CELLS], d: usize, labels: &mut [u32; TABLES])
-    requires { ⌜ (d < 96) × (length (now table) ≡ 100) × (length (now labels) ≡ tables-size) ⌝ }
+// Puts a table into place d: first the tables of labels have theirs, then the slots, then the ends, then
+// the bits.
+pub(crate) fn put_table(table: &[u32; CELLS], d: usize, labels: &mut [u32; TABLES])
+    requires { ⌜ (d < 128) × (length (now table) ≡ 100) × (length (now labels) ≡ tables-size) ⌝ }
     ensures { λ _. ⌜ now (labels .exit) ≡ put-record 100 d (now (table .entry)) (now (labels .entry)) ⌝ }
 {
     let at = CELLS * d;

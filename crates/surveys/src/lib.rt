@@ -3,3 +3,4 @@
 pub mod labels; // labels.rt: the tables of labels of a survey's drawings
 pub mod ranks; // ranks.rt: the labels of a survey numbered in rising order
 pub mod kinds; // kinds.rt: the kinds that occur in a survey
+pub mod bits; // bits.rt: the labels as bits, where they are few

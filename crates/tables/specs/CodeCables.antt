@@ -6,11 +6,13 @@ use mathlib.Core.List.{List, [], _∷_, _++_, map, append-assoc, append-nil}
 use Prim.Native.Nat.{ℕ, suc, _/_, _≤_, _<_}
 use native.Mathlib.Omega.{arith}
 use lib.Dec.{eqb}
-use lib.ListN.{length, getD, take, drop, List·getD-map}
+use lib.ListN.{length, getD, take, drop, length-map, List·getD-map}
+use lib.Seq.{split-at}
 use borrow.Author.Tests.{ne-eqb}
 use Rattle.laws.specs.Lists.{snoc, snoc-length, snoc-old, snoc-new}
 use Rattle.laws.specs.Rows.{row}
 use Rattle.graphs.specs.Drawing.{Cable, kind}
+use Rattle.graphs.specs.Cables.{Has, has-at}
 use Rattle.codes.specs.Code.{
   Rec,
   Reading,
@@ -146,6 +148,20 @@ module _ (γ : List Rec) (r : Rec) (ss : List Rec) (ok : rows-refusal fresh (γ 
 
   decoded-j-kind : kind (decoded (γ ++ r ∷ ss)) (r .j) ≡ r .kj
   decoded-j-kind = rw read-through (read-kinds _ ss (r .j) (tells .started) (tells .j-low) ∙ tells .j-kind)
+
+-- RECORD p of accepted rows: its cable, and the kind of its j
+module _ (γ : List Rec) (p : ℕ) (e : Rec) (h : p < length γ) (is : getD γ p e ≡ e) where
+  pub row-cable : Has (e .i) (e .j) (e .c) (decoded γ .cables)
+  unfolding cable-of
+  row-cable =
+      rw (decoded-cables-are γ)
+      (rw (List·getD-map cable-of γ p e ∙ ap cable-of is) at (has-at (map cable-of γ) p (cable-of e) (rw (length-map γ cable-of) h)))
+
+  row-among : γ ≡ take p γ ++ e ∷ drop (suc p) γ
+  row-among = split-at γ p e h ∙ ap (λ (r : Rec). take p γ ++ r ∷ drop (suc p) γ) is
+
+  pub row-j-kind : rows-refusal fresh γ ≡ 0 → kind (decoded γ) (e .j) ≡ e .kj
+  row-j-kind ok = rw row-among (decoded-j-kind (take p γ) e (drop (suc p) γ) (rw row-among at ok))
 
 -- RECORD k of an accepted code
 pub code-cables : (bs : List ℕ) → length (decoded (code-records bs) .cables) ≡ length bs / 5

@@ -25,10 +25,10 @@ unfolding put-record
 copied-whole w k r xs e = ap (λ (l : List ℕ). take (w * k) xs ++ l ++ drop (w * k + w) xs) (take-all w r (omega arith))
 
 -- ONE TABLE in its place leaves the size
-room-for : (k : ℕ) (xs : List ℕ) → k < 96 → length xs ≡ tables-size → 100 * k + 100 ≤ length xs
+room-for : (k : ℕ) (xs : List ℕ) → k < 128 → length xs ≡ tables-size → 100 * k + 100 ≤ length xs
 room-for k xs h e = omega arith
 
-pub put-sized : (k : ℕ) (r xs : List ℕ) → k < 96 → length r ≡ 100 → length xs ≡ tables-size → length (put-record 100 k r xs) ≡ tables-size
+pub put-sized : (k : ℕ) (r xs : List ℕ) → k < 128 → length r ≡ 100 → length xs ≡ tables-size → length (put-record 100 k r xs) ≡ tables-size
 put-sized k r xs h size e = put-length 100 k r xs size (room-for k xs h e) ∙ e
 
 -- ONE DRAWING: its table, its slots and their groups' ends

@@ -8,6 +8,7 @@ pub mod SlotWalks
 pub mod DrawingTables
 pub mod LabelMarks
 pub mod LabelBlocks
+pub mod LabelBits
 pub mod Prepared
 pub mod Counts
 pub mod Choices
@@ -25,6 +26,7 @@ pub mod SlotEdges
 pub mod EmbeddingLists
 pub mod EmbeddingRows
 pub mod ListedCounts
+pub mod Sweeps
 -- Laws over them.
 pub mod TallyLaws
 pub mod PutLaws
@@ -35,6 +37,7 @@ pub mod WalkStepLaws
 pub mod FirstCableLaws
 pub mod DrawingDone
 pub mod DrawingTableLaws
+pub mod LabelBitLaws
 pub mod LabelMarkLaws
 pub mod CableLabels
 pub mod SurveyLabels
@@ -62,5 +65,9 @@ pub mod SlotEdgeLaws
 pub mod SlotRowLaws
 pub mod EmbeddingStepLaws
 pub mod EmbeddingLevelLaws
+pub mod FloorRankLaws
 pub mod ListedRowLaws
 pub mod ListedCountLaws
+pub mod SweepLaws
+pub mod GatherLaws
+pub mod PutBitLaws

@@ -5,7 +5,7 @@ use native.Mathlib.Omega.{arith}
 use lib.ListN.{length, getD}
 use borrow.Author.Needs.{needs}
 use Rattle.graphs.specs.Patterns.{accepted-parts}
-use Rattle.tables.specs.TableOfDrawing.{Byte-record, cable-low}
+use Rattle.tables.specs.TableOfDrawing.{cable-low}
 use Rattle.least_code.specs.Degrees.{Degrees-within, none-counted, end-counted, cable-counted}
 use Rattle.least_code.proofs.busy.degrees.Statement.{statement}
 use Rattle.least_code.proofs.busy.degrees.Tie as tie

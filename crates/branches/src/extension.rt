@@ -87,7 +87,7 @@ fn lesser(a: u32, b: u32) -> u32
 }
 
 // The least label from place q to a device that has no number, or 0.
-fn least_edge(
+pub fn least_edge(
     table: &[u32; CELLS],
     numbers: &[u8; Drawing::MOST_DEVICES],
     used: &[bool; Drawing::MOST_DEVICES],

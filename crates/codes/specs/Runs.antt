@@ -1,30 +1,18 @@
 -- Runs: records that are local step by step from one numbering. A code that no full run comes before, from any first
 -- cable, is the least code. Rests on Branch and FullCode. Assumes nothing.
-use mathlib.Core.Path.{_≡_, refl, sym, ap₂, _∙_, subst}
-use mathlib.Core.Bool.{Bool, true, false, cond}
+use mathlib.Core.Path.{_≡_, refl, sym, _∙_, subst}
+use mathlib.Core.Bool.{Bool, true, false}
 use mathlib.Core.List.{List, [], _∷_, _++_, append-assoc, append-nil}
-use mathlib.Core.Logic.{_⊎_, inl, inr}
-use Prim.Native.Nat.{ℕ, suc}
+use mathlib.Core.Logic.{_⊎_}
+use Prim.Native.Nat.{ℕ}
 use native.Mathlib.Omega.{arith}
 use lib.ListN.{length}
-use Rattle.laws.specs.Tests.{Three, less, same, more, test, true-and-false, false-unless}
+use Rattle.laws.specs.Tests.{Three, less, same, more, true-and-false}
 use Rattle.laws.specs.Lists.{snoc}
-use Rattle.laws.specs.Orders.{Strict-order}
 use Rattle.graphs.specs.Drawing.{Drawing}
 use Rattle.graphs.specs.Cables.{Has}
 use Rattle.graphs.specs.Graph.{Pattern}
-use Rattle.codes.specs.Code.{
-  Rec,
-  Reading,
-  fresh,
-  rows-refusal,
-  read-rows,
-  rec-same,
-  rec-before-by,
-  before-by,
-  Code-of,
-  Least-by,
-}
+use Rattle.codes.specs.Code.{Rec, Reading, fresh, read-rows, rec-before-by, before-by, Code-of, Least-by}
 use Rattle.codes.specs.CodeOrder.{
   Label-order,
   rec-before-strict,
@@ -85,21 +73,13 @@ module _ (labels : Rec → Rec → Bool) (o : Label-order labels) (d : Drawing) 
   unfolding before-by
   least-run-done γ f ss r e = refl
 
-  -- the code is ahead already: e is the least that goes on, and comes after b
+  -- the code is ahead already: all that goes on comes after b
   pub least-run-cut :
-      (γ : List Rec) (f : List ℕ) (e b : Rec) (tail : List Rec) → Least-local (read-rows fresh γ) f e → rec-before-by labels b e ≡ true
+      (γ : List Rec) (f : List ℕ) (b : Rec) (tail : List Rec) → ((l : Rec) → Local d (read-rows fresh γ) f l → rec-before-by labels b l ≡ true)
       → Least-run γ f (b ∷ tail)
   unfolding Run
-  least-run-cut γ f e b tail least z [] r n = absurd (omega arith)
-  least-run-cut γ f e b tail least z (l ∷ ss) (h, r) n = go (rec-before-strict labels o .tri e l)
-    where
-      s : Strict-order (rec-before-by labels)
-      s = rec-before-strict labels o
-
-      go : Three (rec-before-by labels e l ≡ true) (e ≡ l) (rec-before-by labels l e ≡ true) → before-by labels (l ∷ ss) (b ∷ tail) ≡ false
-      go (less q) = later-not-before labels o b l tail ss (s .trans b e l z q)
-      go (same q) = later-not-before labels o b l tail ss (subst (λ (y : Rec). rec-before-by labels b y ≡ true) q z)
-      go (more q) = absurd (true-and-false q (least l h))
+  least-run-cut γ f b tail later [] r n = absurd (omega arith)
+  least-run-cut γ f b tail later (l ∷ ss) (h, r) n = later-not-before labels o b l tail ss (later l h)
 
   -- e is the least that goes on, and its ties are done
   pub least-run-step :

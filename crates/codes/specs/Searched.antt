@@ -1,17 +1,16 @@
 -- A search for the least code that keeps the best code so far: what it has done below one branch, and how branches and
 -- ties add up. Rests on Runs. Assumes nothing.
 use mathlib.Core.Path.{_≡_, refl, sym, ap, _∙_, subst}
-use mathlib.Core.Bool.{Bool, true, false}
+use mathlib.Core.Bool.{Bool, true}
 use mathlib.Core.List.{List, [], _∷_, _++_, append-assoc, append-nil}
 use mathlib.Core.Logic.{_⊎_, inl, inr}
-use Prim.Native.Nat.{ℕ, suc, _+_, _≤_, _<_}
+use Prim.Native.Nat.{ℕ, _+_, _≤_}
 use native.Mathlib.Omega.{arith}
 use lib.ListN.{length, length-append}
-use Rattle.laws.specs.Tests.{true-and-false}
-use Rattle.laws.specs.Lists.{snoc, snoc-length, nil-of-length}
+use Rattle.laws.specs.Lists.{snoc, nil-of-length}
 use Rattle.graphs.specs.Drawing.{Drawing, devices}
 use Rattle.graphs.specs.Embedding.{Ends-in-range}
-use Rattle.codes.specs.Code.{Rec, Reading, fresh, read-rows, rec-before-by, before-by}
+use Rattle.codes.specs.Code.{Rec, fresh, read-rows, rec-before-by, before-by}
 use Rattle.codes.specs.CodeOrder.{Label-order, before-strict, difference-decides, same-first}
 use Rattle.codes.specs.Extension.{Local, next}
 use Rattle.codes.specs.Greedy.{Fits}
@@ -92,10 +91,10 @@ module _ (labels : Rec → Rec → Bool) (o : Label-order labels) (d : Drawing) 
 
   -- the best is ahead already
   pub searched-cut :
-      (γ : List Rec) (f : List ℕ) (e c : Rec) (rest : List Rec) → Least-local labels o d (read-rows fresh γ) f e → rec-before-by labels c e ≡ true
+      (γ : List Rec) (f : List ℕ) (c : Rec) (rest : List Rec) → ((l : Rec) → Local d (read-rows fresh γ) f l → rec-before-by labels c l ≡ true)
       → Full (γ ++ c ∷ rest) → Fits d (γ ++ c ∷ rest) → Searched γ f (γ ++ c ∷ rest) (γ ++ c ∷ rest)
-  searched-cut γ f e c rest least z h t =
-      record { rest = c ∷ rest; is = refl; full = h; fits = t; least = least-run-cut labels o d γ f e c rest least z; at-most = λ q. inl refl }
+  searched-cut γ f c rest later h t =
+      record { rest = c ∷ rest; is = refl; full = h; fits = t; least = least-run-cut labels o d γ f c rest later; at-most = λ q. inl refl }
 
   -- TIES, one after another: all numberings that came so far are searched
   pub record Ties (γ : List Rec) (first now : List Rec) (Done : List ℕ → Type 0) : Type 0 where

@@ -1,10 +1,6 @@
 -- Definitions.
-pub mod Searches
+pub mod Starting
 -- Laws over them.
 pub mod Degrees
-pub mod SearchBest
-pub mod SearchLaws
-pub mod SearchWays
-pub mod SearchCalls
 pub mod SearchStarts
 pub mod SearchStartCalls

@@ -21,19 +21,8 @@ use Rattle.codes.specs.LabelLaws.{Labelled, cable-labelled}
 use Rattle.codes.specs.BranchSteps.{represents-first}
 use Rattle.tables.specs.declared.«record».Order.the-variants.{After}
 use Rattle.branches.specs.NextRecords.{first-along, Makes-first}
-use Rattle.least_code.specs.Searches.{
-  Search-from,
-  Search-done,
-  Against,
-  comes-after,
-  Start-from,
-  Start-done,
-  passed,
-  searched,
-  Starts,
-  no-start,
-  some-start,
-}
+use Rattle.least_below.specs.Searches.{Search-from, Search-done, Against, comes-after}
+use Rattle.least_code.specs.Starting.{Start-from, Start-done, passed, searched, Starts, no-start, some-start}
 
 -- ONE START
 module _ {bs table : List ℕ} {m u w k : ℕ} {best : List Rec} (s : Start-from bs table m u w k best) where

@@ -8,7 +8,7 @@ ghost use Prim.Native.Nat.{_≤_, _<_};
 ghost use lib.ListN.{length};
 ghost use Rattle.codes.specs.Code.{recs-in};
 ghost use Rattle.tables.specs.Records.{as-rec};
-ghost use Rattle.least_code.specs.Searches.{Against, chosen-rows};
+ghost use Rattle.least_below.specs.Searches.{Against, chosen-rows};
 
 // Where the next record comes against record t of the best code, which may have no more than t records yet.
 pub(crate) fn order_at(best: &[u8; Code::BYTES], held: usize, t: usize, next: Record) -> Order

@@ -1,9 +1,9 @@
 // The search for the least code of a drawing, over all starts and all choices of the next cable.
-use crate::below::search_first;
 use crate::best::choose_at;
 use crate::best::order_at;
 use crate::busy::busiest;
 use branches::next::first_record;
+use least_below::below::search_first;
 use records::cable::Cable;
 use records::code::Code;
 use records::drawing::Drawing;
@@ -17,7 +17,7 @@ ghost use Rattle.graphs.specs.Drawing.{drawing-in, drawing-refusal};
 ghost use Rattle.codes.specs.Code.{recs-in, Least};
 ghost use Rattle.codes.specs.Twins.{Twins-noted};
 ghost use Rattle.readings.specs.Readings.{held-records};
-ghost use Rattle.least_code.specs.Searches.{Start-from, Start-done, Cable-from, One-cable-more};
+ghost use Rattle.least_code.specs.Starting.{Start-from, Start-done, Cable-from, One-cable-more};
 
 // All codes that begin with a cable from its end a to its end b, against the best so far. Any cable can begin a code, so a
 // first record after the best's says that none of them is less.

@@ -27,7 +27,7 @@ use Rattle.codes.specs.CodeOrder.{rec-eq, rec-same-test, backward-before-forwar
 use Rattle.codes.specs.Step.{Step, steps-back, steps-forward}
 use Rattle.codes.specs.ReadRows.{step-from-test, rows-cons, rows-divided}
 use Rattle.codes.specs.Extension.{Local, next}
-use Rattle.codes.specs.Better.{Better}
+use Rattle.codes.specs.Better.{Sees-before, Better}
 use Rattle.codes.specs.BranchState.{
   label-of,
   State,
@@ -157,9 +157,12 @@ module _ {d : Drawing} {t : List ℕ} {γ : List Rec} {b : State} (v : Sees d t 
   sighted : (r : Rec) → Local d x f r → Sighted t x b r
   sighted = local-sighted d (v .ten) (v .ends) t (v .labels) γ b (v .branch)
 
-  seen : (a : Rec) → Local d x f a → rec-before a e ≡ true → Better kinds-before d γ (e ∷ ss) f
+  seen : (a : Rec) → Local d x f a → rec-before a e ≡ true → Sees-before kinds-before d x f e
+  seen a h p = record { l = a; local = h; earlier = p }
+
+  pub seen-better : Sees-before kinds-before d x f e → Better kinds-before d γ (e ∷ ss) f
   unfolding Better
-  seen a h p = inl (record { l = a; local = h; earlier = p })
+  seen-better s = inl s
 
   chord-seen : (p : ℕ) → Open-place b p → (h : 0 < chord-label t b p) → Local d x f (chord-of x b p (chord-label t b p))
   chord-seen p o h = chord-local d (v .ten) (v .ends) t (v .labels) γ b (v .branch) p (chord-label t b p) o refl h
@@ -216,7 +219,7 @@ module _ {d : Drawing} {t : List ℕ} {γ : List Rec} {b : State} (v : Sees d t 
           subst (Open-place b) (same-place (o .q) q (omega (arith, o .place .inner)) below (o .is ∙ sym is)) (o .place)
 
       -- a chord to a lower place comes before it
-      pub back-lower : (p : ℕ) → p < q → b .low ≤ getD (b .path) p 0 → 0 < chord-label t b p → Better kinds-before d γ (e ∷ ss) f
+      pub back-lower : (p : ℕ) → p < q → b .low ≤ getD (b .path) p 0 → 0 < chord-label t b p → Sees-before kinds-before d x f e
       back-lower p h low s =
           let o : Open-place b p = record { inner = omega (arith, back-place .inner); high = low } in
           seen (chord-of x b p (chord-label t b p)) (chord-seen p o s)
@@ -225,7 +228,7 @@ module _ {d : Drawing} {t : List ℕ} {γ : List Rec} {b : State} (v : Sees d t 
 
       module _ (byte : e .kj < 256) where
         -- so does one there with a lower label
-        pub back-label : 0 < chord-label t b q → chord-label t b q < wanted → Better kinds-before d γ (e ∷ ss) f
+        pub back-label : 0 < chord-label t b q → chord-label t b q < wanted → Sees-before kinds-before d x f e
         back-label s h =
             let a = chord-of x b q (chord-label t b q) in
             seen a (chord-seen q back-place s)
@@ -233,12 +236,9 @@ module _ {d : Drawing} {t : List ℕ} {γ : List Rec} {b : State} (v : Sees d t 
             ∙ kinds-lower a e (kind-at _ end-is) (label-lower (chord-label t b q) (e .c) (e .kj) byte s h))
 
         module _ (none : (p : ℕ) → p < q → b .low ≤ getD (b .path) p 0 → chord-label t b p ≡ 0) where
-          -- without either, and another label than its own, nothing is
-          pub back-none :
-              (chord-label t b q ≡ wanted → ⊥) → ((0 < chord-label t b q) × (chord-label t b q < wanted) → ⊥)
-              → Better kinds-before d γ (e ∷ ss) f → ⊥
-          unfolding Better
-          back-none other lower (inl s) = go (sighted (s .l) (s .local))
+          -- without a lower label there nothing comes before it
+          pub back-not-before : ((0 < chord-label t b q) × (chord-label t b q < wanted) → ⊥) → Sees-before kinds-before d x f e → ⊥
+          back-not-before lower s = go (sighted (s .l) (s .local))
             where
               go : Sighted t x b (s .l) → ⊥
               go (sees-edge p w h g n i) =
@@ -261,7 +261,10 @@ module _ {d : Drawing} {t : List ℕ} {γ : List Rec} {b : State} (v : Sees d t 
                       let h : wanted ≤ chord-label t b p = omega arith in
                       backward-same-ends kinds-before a e (chord-down p o) end-is (ap (λ (y : ℕ). getD (b .path) y 0) z ∙ is)
                       ∙ kinds-not-before a e (kind-at _ end-is) (label-not-lower (chord-label t b p) (e .c) (e .kj) byte h)
-          back-none other lower (inr m) = go (sighted e (m .0))
+
+          -- with another label than its own it does not go on itself
+          pub back-not-there : (chord-label t b q ≡ wanted → ⊥) → Local d x f e → ⊥
+          back-not-there other h = go (sighted e h)
             where
               go : Sighted t x b e → ⊥
               go (sees-edge p w h g n i) =
@@ -275,10 +278,22 @@ module _ {d : Drawing} {t : List ℕ} {γ : List Rec} {b : State} (v : Sees d t 
                   let z = same-place p q (omega (arith, o .inner)) below (sym j ∙ sym is) in
                   other (ap (chord-label t b) (sym z) ∙ omega (arith, label-whole (chord-label t b p) n))
 
+          pub back-none :
+              (chord-label t b q ≡ wanted → ⊥) → ((0 < chord-label t b q) × (chord-label t b q < wanted) → ⊥)
+              → Better kinds-before d γ (e ∷ ss) f → ⊥
+          unfolding Better
+          back-none other lower (inl s) = back-not-before lower s
+          back-none other lower (inr m) = back-not-there other (m .0)
+
           -- WITH ITS OWN LABEL the way there is the one way on
           module _ (own : chord-label t b q ≡ wanted) where
-            found : Chord-found t b q wanted
-            found = record { place = back-place; label = own; some = omega arith; lowest = λ p h o. none p h (o .high) }
+            pub back-found : Chord-found t b q wanted
+            back-found = record { place = back-place; label = own; some = omega arith; lowest = λ p h o. none p h (o .high) }
+
+            pub back-is : chord-of x b q wanted ≡ e
+            back-is =
+                let parts = label-parts (e .c) (e .kj) byte in
+                rec-eq _ e end-is is (kind-at _ end-is) (sym (parts .0)) (sym (parts .1))
 
             order : step-order b (Chord q wanted) e ≡ Equal
             order =
@@ -287,13 +302,13 @@ module _ {d : Drawing} {t : List ℕ} {γ : List Rec} {b : State} (v : Sees d t 
                 ∙ order-same e
 
             pub back-represents : Represents d (snoc γ e) (with-chord b q)
-            back-represents = way-represents v e ss ok (Chord q wanted) found order 0 refl
+            back-represents = way-represents v e ss ok (Chord q wanted) back-found order 0 refl
 
             pub back-on : Better kinds-before d (snoc γ e) ss f → Better kinds-before d γ (e ∷ ss) f
-            back-on = way-better v e ss ok (Chord q wanted) found order 0 refl
+            back-on = way-better v e ss ok (Chord q wanted) back-found order 0 refl
 
             pub back-only : (Better kinds-before d (snoc γ e) ss f → ⊥) → Better kinds-before d γ (e ∷ ss) f → ⊥
-            back-only n = ways-none v e ss ok (Chord q wanted) found order (λ w h g. n)
+            back-only n = ways-none v e ss ok (Chord q wanted) back-found order (λ w h g. n)
 
   -- FORWARD, from the device at place q
   module _ (up : e .j < e .i → ⊥) where
@@ -315,14 +330,14 @@ module _ {d : Drawing} {t : List ℕ} {γ : List Rec} {b : State} (v : Sees d t 
     ahead = let p = front-place in omega (arith, front-given, p .is, bounds .on-path (p .i) (p .below))
 
     -- any chord comes before it
-    pub front-chord : (p : ℕ) → Open-place b p → 0 < chord-label t b p → Better kinds-before d γ (e ∷ ss) f
+    pub front-chord : (p : ℕ) → Open-place b p → 0 < chord-label t b p → Sees-before kinds-before d x f e
     front-chord p o s =
         let a = chord-of x b p (chord-label t b p) in
         seen a (chord-seen p o s) (backward-before-forward kinds-before a e (chord-down p o) ahead)
 
     module _ (q : ℕ) (below : q < b .count) (is : getD (b .path) q 0 ≡ e .i) where
       -- an edge from a deeper place does
-      pub front-deeper : (p w : ℕ) → q < p → p < b .count → Free b w → 0 < edge-label t b p w → Better kinds-before d γ (e ∷ ss) f
+      pub front-deeper : (p w : ℕ) → q < p → p < b .count → Free b w → 0 < edge-label t b p w → Sees-before kinds-before d x f e
       front-deeper p w h g free s =
           let a = edge-of x b p (edge-label t b p w) in
           seen a (edge-seen p w g free s)
@@ -330,15 +345,15 @@ module _ {d : Drawing} {t : List ℕ} {γ : List Rec} {b : State} (v : Sees d t 
 
       module _ (byte : e .kj < 256) where
         -- one there with a lower label does
-        pub front-label : (w : ℕ) → Free b w → 0 < edge-label t b q w → edge-label t b q w < wanted → Better kinds-before d γ (e ∷ ss) f
+        pub front-label : (w : ℕ) → Free b w → 0 < edge-label t b q w → edge-label t b q w < wanted → Sees-before kinds-before d x f e
         front-label w free s h =
             let a = edge-of x b q (edge-label t b q w) in
             seen a (edge-seen q w below free s)
             (forward-same-ends kinds-before a e (bounds .on-path q below) is (sym front-given)
             ∙ kinds-lower a e (kind-at _ is) (label-lower (edge-label t b q w) (e .c) (e .kj) byte s h))
 
-        edge-is : edge-of x b q wanted ≡ e
-        edge-is =
+        pub front-is : edge-of x b q wanted ≡ e
+        front-is =
             let parts = label-parts (e .c) (e .kj) byte in
             rec-eq _ e is (sym front-given) (kind-at _ is) (sym (parts .0)) (sym (parts .1))
 
@@ -349,7 +364,7 @@ module _ {d : Drawing} {t : List ℕ} {γ : List Rec} {b : State} (v : Sees d t 
 
           pub front-represents : Represents d (snoc γ e) (with-edge b q w)
           front-represents =
-              subst (λ (z : Rec). Represents d (snoc γ z) (with-edge b q w)) edge-is
+              subst (λ (z : Rec). Represents d (snoc γ z) (with-edge b q w)) front-is
               (represents-edge d (v .ten) (v .ends) t (v .labels) γ b (v .branch) q w wanted below free own (omega arith))
 
           on-from : (z : Rec) → edge-of x b q wanted ≡ z
@@ -362,14 +377,20 @@ module _ {d : Drawing} {t : List ℕ} {γ : List Rec} {b : State} (v : Sees d t 
               (λ m. inr (h .0, rw (h .1, ← numbering-with-edge d (v .ten) (v .ends) t (v .labels) γ b (v .branch) q w front-room) m))
 
           pub front-on : Better kinds-before d (snoc γ e) ss (numbering (with-edge b q w)) → Better kinds-before d γ (e ∷ ss) f
-          front-on = on-from e edge-is
+          front-on = on-from e front-is
 
-        -- WHERE NONE OF THESE IS, and no way leads to one, nothing is
+        -- it goes on itself only to a device at its own label
+        pub front-not-there : ((w : ℕ) → Free b w → edge-label t b q w ≡ wanted → ⊥) → Local d x f e → ⊥
+        front-not-there no-way h =
+            let own = subst (Local d x f) (sym front-is) h in
+            let k = edge-ties d (v .ten) (v .ends) t (v .labels) γ b (v .branch) q wanted below (omega arith) own in
+            no-way (k .w) (k .free) (k .label)
+
+        -- WHERE NONE OF THESE IS nothing comes before it, and where no way leads to one, nothing better is seen
         module _
             (no-chord : No-chord t b)
             (no-deeper : (p w : ℕ) → q < p → p < b .count → Free b w → edge-label t b p w ≡ 0)
-            (no-lower : (w : ℕ) → Free b w → (0 < edge-label t b q w) × (edge-label t b q w < wanted) → ⊥)
-            (no-way : (w : ℕ) → Free b w → edge-label t b q w ≡ wanted → Better kinds-before d (snoc γ e) ss (numbering (with-edge b q w)) → ⊥) where
+            (no-lower : (w : ℕ) → Free b w → (0 < edge-label t b q w) × (edge-label t b q w < wanted) → ⊥) where
           none-before : (r : Rec) → Sighted t x b r → rec-before r e ≡ false
           none-before r (sees-chord p o n i) = absurd (omega (arith, no-chord p o))
           none-before r (sees-edge p w h g n i) = rw i (at (decLt p q) (decLt q p))
@@ -418,7 +439,12 @@ module _ {d : Drawing} {t : List ℕ} {γ : List Rec} {b : State} (v : Sees d t 
                     ← k .next-is,
                   ) m)
 
-          pub front-none : Better kinds-before d γ (e ∷ ss) f → ⊥
+          pub front-not-before : Sees-before kinds-before d x f e → ⊥
+          front-not-before s = true-and-false (s .earlier) (none-before (s .l) (sighted (s .l) (s .local)))
+
+          pub front-none :
+              ((w : ℕ) → Free b w → edge-label t b q w ≡ wanted → Better kinds-before d (snoc γ e) ss (numbering (with-edge b q w)) → ⊥)
+              → Better kinds-before d γ (e ∷ ss) f → ⊥
           unfolding Better
-          front-none (inl s) = true-and-false (s .earlier) (none-before (s .l) (sighted (s .l) (s .local)))
-          front-none (inr m) = leads e edge-is no-way m
+          front-none no-way (inl s) = front-not-before s
+          front-none no-way (inr m) = leads e front-is no-way m

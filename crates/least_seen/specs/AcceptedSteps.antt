@@ -14,8 +14,8 @@ use Rattle.laws.specs.Rows.{row}
 use Rattle.graphs.specs.Drawing.{Drawing}
 use Rattle.graphs.specs.Cables.{has-flip}
 use Rattle.graphs.specs.Graph.{Simple}
-use Rattle.codes.specs.Code.{Rec, fresh, rec-in, code-records, kinds-before, rows-refusal, decoded}
-use Rattle.codes.specs.Better.{Better}
+use Rattle.codes.specs.Code.{Rec, fresh, rec-in, code-records, kinds-before, rows-refusal, read-rows, decoded}
+use Rattle.codes.specs.Better.{Sees-before, Better}
 use Rattle.codes.specs.BranchState.{
   label-at,
   State,
@@ -55,6 +55,7 @@ use Rattle.least_seen.specs.Accepting.{
 }
 use Rattle.least_seen.specs.AcceptedLaws.{
   one-way,
+  seen-better,
   back-open,
   back-lower,
   back-label,
@@ -162,6 +163,10 @@ module _ {t bs : List ℕ} {m n k : ℕ} {b : State} (G : Test-goes-on t bs m n 
     unfolding e ss
     here x = rw (records-on bs k below (rec-in (row 5 k bs)) refl) x
 
+    sees-earlier :
+        Sees-before kinds-before (decoded (code-records bs)) (read-rows fresh (take k (code-records bs))) (numbering b) e → Better-below bs k b
+    sees-earlier x = here (seen-better v e ss ok x)
+
     on : Better-below bs k b → Better kinds-before (decoded (code-records bs)) (take k (code-records bs)) (e ∷ ss) (numbering b)
     unfolding e ss
     on x = rw (records-on bs k below (rec-in (row 5 k bs)) refl) at x
@@ -220,8 +225,8 @@ module _ {t bs : List ℕ} {m n k : ℕ} {b : State} (G : Test-goes-on t bs m n 
         module _ (byte : rec-in (row 5 k bs) .kj < 256) where
           pub told-before : Chord-told t (b .numbers) (b .path) (b .count) (b .low) q (wanted-label bs k) Before → Better-below bs k b
           unfolding e
-          told-before (inl c) = here (back-lower v e ss ok falls q low at-j (c .q) (c .below) (c .high) (c .some))
-          told-before (inr l) = here (back-label v e ss ok falls q low at-j byte (l .0) (l .1))
+          told-before (inl c) = sees-earlier (back-lower v e ss ok falls q low at-j (c .q) (c .below) (c .high) (c .some))
+          told-before (inr l) = sees-earlier (back-label v e ss ok falls q low at-j byte (l .0) (l .1))
 
           pub told-after : Chord-told t (b .numbers) (b .path) (b .count) (b .low) q (wanted-label bs k) After → Better-below bs k b → ⊥
           unfolding e
@@ -263,9 +268,9 @@ module _ {t bs : List ℕ} {m n k : ℕ} {b : State} (G : Test-goes-on t bs m n 
 
         pub edge-before : Before-edge t (b .numbers) (b .used) (b .path) (b .count) (b .low) n q → Better-below bs k b
         edge-before (inl c) =
-            here (front-chord v e ss ok rises (c .q) (record { inner = omega (arith, c .below); high = c .high }) (c .some))
+            sees-earlier (front-chord v e ss ok rises (c .q) (record { inner = omega (arith, c .below); high = c .high }) (c .some))
         edge-before (inr c) =
-            here (front-deeper v e ss ok rises q low at-i (c .p) (c .edge .w) (c .above) (c .below)
+            sees-earlier (front-deeper v e ss ok rises q low at-i (c .p) (c .edge .w) (c .above) (c .below)
             (free (c .edge .w) (c .edge .below) (c .edge .free)) (c .edge .some))
 
         module _ (byte : rec-in (row 5 k bs) .kj < 256) where
@@ -275,7 +280,7 @@ module _ {t bs : List ℕ} {m n k : ℕ} {b : State} (G : Test-goes-on t bs m n 
             edge-lower x =
                 let u = f .taken (x .0) in
                 let s = f .free u in
-                here (front-label v e ss ok rises q low at-i byte w (free w h u) (rw s at (x .0)) (rw s at (x .1)))
+                sees-earlier (front-label v e ss ok rises q low at-i byte w (free w h u) (rw s at (x .0)) (rw s at (x .1)))
 
             pub not-lower-way : (Lower l (wanted-label bs k) → ⊥) → (l ≡ wanted-label bs k → ⊥) → Tried-way t bs k b q w
             not-lower-way a c =

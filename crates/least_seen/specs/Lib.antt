@@ -1,8 +1,10 @@
 -- Definitions.
 pub mod Betters
 pub mod Accepting
+pub mod Meetings
 -- Laws over them.
 pub mod BetterLaws
 pub mod TestFollowLaws
 pub mod AcceptedLaws
 pub mod AcceptedSteps
+pub mod MeetingLaws

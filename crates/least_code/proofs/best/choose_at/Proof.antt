@@ -6,8 +6,8 @@ use borrow.Author.Needs.{needs}
 use Rattle.codes.specs.Code.{recs-in}
 use Rattle.tables.specs.declared.«record».Order.{Order}
 use Rattle.tables.specs.Records.{as-rec}
-use Rattle.least_code.specs.Searches.{chosen-rows}
-use Rattle.least_code.specs.SearchBest.{chosen-kept}
+use Rattle.least_below.specs.Searches.{chosen-rows}
+use Rattle.least_below.specs.SearchBest.{chosen-kept}
 use Rattle.least_code.proofs.best.choose_at.Statement.{statement}
 use Rattle.least_code.proofs.best.choose_at.Tie as tie
 

@@ -3,8 +3,8 @@ use mathlib.Core.Path.{sym, ap, _∙_, subst}
 use borrow.Author.Needs.{needs}
 use Rattle.codes.specs.Code.{recs-in}
 use Rattle.tables.specs.Records.{as-rec, order-of}
-use Rattle.least_code.specs.Searches.{Against}
-use Rattle.least_code.specs.SearchBest.{against-nothing, against-record}
+use Rattle.least_below.specs.Searches.{Against}
+use Rattle.least_below.specs.SearchBest.{against-nothing, against-record}
 use Rattle.least_code.proofs.best.order_at.Statement.{statement}
 use Rattle.least_code.proofs.best.order_at.Tie as tie
 

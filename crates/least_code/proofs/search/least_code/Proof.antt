@@ -10,7 +10,8 @@ use Rattle.graphs.specs.Drawing.{drawing-in}
 use Rattle.graphs.specs.Patterns.{accepted-parts}
 use Rattle.codes.specs.Code.{recs-in}
 use Rattle.tables.specs.TableOfDrawing.{record-pattern}
-use Rattle.least_code.specs.Searches.{Given, Starts, Seen-in, First-and-before}
+use Rattle.least_below.specs.Searches.{Given}
+use Rattle.least_code.specs.Starting.{Starts, Seen-in, First-and-before}
 use Rattle.least_code.specs.SearchStartCalls.{no-rows, none-best, first-seen, seen-best, next-seen, skip-seen, all-seen}
 use Rattle.least_code.proofs.search.least_code.Statement.{statement}
 use Rattle.least_code.proofs.search.least_code.Tie as tie

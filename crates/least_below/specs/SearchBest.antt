@@ -17,7 +17,7 @@ use Rattle.tables.specs.declared.«record».Order.{Order}
 use Rattle.tables.specs.declared.«record».Order.the-variants.{Before, Equal, After}
 use Rattle.tables.specs.Records.{order-of}
 use Rattle.tables.specs.RecordLaws.{order-before, order-equal, order-after}
-use Rattle.least_code.specs.Searches.{
+use Rattle.least_below.specs.Searches.{
   Against,
   nothing-there,
   comes-before,
@@ -46,9 +46,9 @@ module _ (bs : List ℕ) where
     pub against-nothing : t ≤ n → n ≤ t → Against (recs-in t bs) (recs-in n bs) e Before
     against-nothing p q = let z : n ≡ t = omega arith in nothing-there (ap (λ (i : ℕ). recs-in i bs) z)
 
-    behind : t < n → (rest : List Rec) × (recs-in n bs ≡ recs-in t bs ++ rec-in (row 5 t bs) ∷ rest)
+    pub record-behind : t < n → (rest : List Rec) × (recs-in n bs ≡ recs-in t bs ++ rec-in (row 5 t bs) ∷ rest)
     unfolding recs-in
-    behind h =
+    record-behind h =
         let z : n ≡ t + suc (n - (t + 1)) = omega arith in (
           map rec-in (rows 5 (n - (t + 1)) (drop (5 * suc t) bs)),
           ap (λ (i : ℕ). recs-in i bs) z ∙ recs-split t (suc (n - (t + 1)))
@@ -56,7 +56,7 @@ module _ (bs : List ℕ) where
         )
 
     pub against-record : t < n → Against (recs-in t bs) (recs-in n bs) e (order-of e (rec-in (row 5 t bs)))
-    against-record h = go (order-of e c) refl (behind h)
+    against-record h = go (order-of e c) refl (record-behind h)
       where
         c : Rec
         c = rec-in (row 5 t bs)
@@ -87,3 +87,10 @@ against-chosen d γ best e Before (nothing-there z) n = begun z
 against-chosen d γ best e Before (comes-before c rest is z) n = lowered c rest is z
 against-chosen d γ best e Equal (is-there rest is) n = kept rest is
 against-chosen d γ best e After a n = absurd (n refl)
+
+-- neither comes after
+pub before-goes-on : Before ≡ After → ⊥
+before-goes-on e = let z : _≡_ {A = ℕ} 0 1 = cc in omega arith
+
+pub equal-goes-on : Equal ≡ After → ⊥
+equal-goes-on e = let z : _≡_ {A = ℕ} 0 1 = cc in omega arith

@@ -28,8 +28,8 @@ use Rattle.branches.specs.Extensions.{Extension-found}
 use Rattle.branches.specs.NextRecords.{found-record}
 use Rattle.branches.specs.Ways as ways
 use Rattle.branches.specs.Ways.{Way, Passed, followed}
-use Rattle.least_code.specs.Searches.{Search-from, Search-done, Led-below}
-use Rattle.least_code.specs.SearchLaws.{chord-record-is, edge-record-is, found-least, found-local}
+use Rattle.least_below.specs.Searches.{Search-from, Search-done, Led-below}
+use Rattle.least_below.specs.SearchLaws.{chord-record-is, edge-record-is, found-least, found-local}
 
 -- fewer ties are searched too
 ties-fewer :

@@ -7,11 +7,13 @@ use mathlib.Core.Logic.{_⊎_, inl, inr}
 use Prim.Native.Nat.{ℕ, _-_, _≤_, _<_}
 use native.Mathlib.Omega.{arith}
 use lib.ListN.{length, getD, length-append}
+use Rattle.laws.specs.Tests.{Three, less, same, more, true-and-false}
+use Rattle.laws.specs.Orders.{Strict-order}
 use Rattle.graphs.specs.Drawing.{Drawing, devices, drawing-in}
 use Rattle.graphs.specs.Embedding.{Ends-in-range}
 use Rattle.graphs.specs.Graph.{Pattern}
 use Rattle.codes.specs.Code.{Rec, fresh, read-rows, kinds-before, rec-before}
-use Rattle.codes.specs.CodeOrder.{rec-eq, kinds-order}
+use Rattle.codes.specs.CodeOrder.{rec-eq, kinds-order, rec-before-strict}
 use Rattle.codes.specs.Extension.{Local}
 use Rattle.codes.specs.Greedy.{Fits}
 use Rattle.codes.specs.Tight.{Tight}
@@ -22,14 +24,16 @@ use Rattle.codes.specs.BranchState.{Labels, State, numbering, chord-of, edge-of
 use Rattle.codes.specs.BranchBounds.{Bounds, represents-bounds, numbering-size, device-is, device-kind}
 use Rattle.codes.specs.BranchLaws.{chord-found-local, edge-local}
 use Rattle.codes.specs.BranchLeast.{chord-found-least, edge-found-least, nothing-found}
-use Rattle.tables.specs.declared.«record».Order.the-variants.{After}
+use Rattle.tables.specs.declared.«record».Order.the-variants.{Before}
 use Rattle.branches.specs.declared.extension.Extension.{Extension}
 use Rattle.branches.specs.declared.extension.Extension.the-variants.{Chord, Edge, None}
 use Rattle.branches.specs.Extensions.{Extension-found}
 use Rattle.branches.specs.NextRecords.{found-record, Makes-record}
 use Rattle.branches.specs.InPlaceLaws.{bounds-places}
+use Rattle.least_seen.specs.declared.met.Met.the-variants.{Earlier, Later}
 use Rattle.least_seen.specs.BetterLaws.{Sees, found-records}
-use Rattle.least_code.specs.Searches.{Search-from, Search-done, Against, comes-after}
+use Rattle.least_seen.specs.Meetings.{Row-next, Row-met}
+use Rattle.least_below.specs.Searches.{Search-from, Search-done, Against, comes-before}
 
 -- rows of a node are some
 node-some : (d : Drawing) (γ : List Rec) (f : List ℕ) → Node d γ f → 0 < length γ
@@ -127,19 +131,36 @@ module _ {bs t : List ℕ} {m : ℕ} {γ : List Rec} {b : State} {best : List Re
   pub search-ended : length γ ≡ m → Search-done bs γ b best best
   search-ended h = searched-done kinds-before kinds-order d γ (numbering b) best (r .node) (h ∙ sym (s .given .cables)) (s .so-far)
 
-  module _ (e : Extension) (found : Extension-found t b e) where
-    abbrev y : Rec
-    y = found-record (drawing-in bs) b e
-
-    -- THE BEST IS AHEAD
-    ahead : (c : Rec) (rest : List Rec) → best ≡ γ ++ c ∷ rest → rec-before c y ≡ true → Search-done bs γ b best best
-    ahead c rest is z = go (s .so-far .whole)
+  -- A RECORD OF THE BEST behind the rows
+  module _ (c : Rec) (rest : List Rec) (is : best ≡ γ ++ c ∷ rest) where
+    whole-best : Full kinds-before kinds-order (drawing-in bs) best × Fits (drawing-in bs) best
+    whole-best = go (s .so-far .whole)
       where
-        go : (best ≡ γ) ⊎ (Full kinds-before kinds-order (drawing-in bs) best × Fits (drawing-in bs) best) → Search-done bs γ b best best
+        go :
+            (best ≡ γ) ⊎ (Full kinds-before kinds-order (drawing-in bs) best × Fits (drawing-in bs) best)
+            → Full kinds-before kinds-order (drawing-in bs) best × Fits (drawing-in bs) best
         go (inl q) = absurd (omega (arith, ap length q, ap length is, length-append γ (c ∷ rest)))
-        go (inr q) =
-            rw is
-            (searched-cut kinds-before kinds-order d γ (numbering b) y c rest (found-least e found) z (rw is at (q .0)) (rw is at (q .1)))
+        go (inr q) = q
 
-    pub search-cut : Against γ best y After → Search-done bs γ b best best
-    search-cut (comes-after c rest is z) = ahead c rest is z
+    pub best-row-next : Row-next (drawing-in bs) t γ b c
+    best-row-next = record { sees = search-sees; rest = rest; accepted = rw is at (whole-best .1 .accepted) }
+
+    -- all that goes on comes after it
+    pub search-cut : Row-met (drawing-in bs) t γ b c Later → Search-done bs γ b best best
+    search-cut later =
+        rw is (searched-cut kinds-before kinds-order d γ (numbering b) c rest later (rw is at (whole-best .0)) (rw is at (whole-best .1)))
+
+    -- something does not
+    pub search-lowers : Row-met (drawing-in bs) t γ b c Earlier → (e : Extension) → Extension-found t b e
+        → Against γ best (found-record (drawing-in bs) b e) Before
+    search-lowers seen e found = comes-before c rest is (go (order .tri (found-record (drawing-in bs) b e) (seen .l)))
+      where
+        order : Strict-order rec-before
+        order = rec-before-strict kinds-before kinds-order
+
+        go :
+            Three (rec-before (found-record (drawing-in bs) b e) (seen .l) ≡ true) (found-record (drawing-in bs) b e ≡ seen .l)
+            (rec-before (seen .l) (found-record (drawing-in bs) b e) ≡ true) → rec-before (found-record (drawing-in bs) b e) c ≡ true
+        go (less q) = order .trans (found-record (drawing-in bs) b e) (seen .l) c q (seen .earlier)
+        go (same q) = rw q (seen .earlier)
+        go (more q) = absurd (true-and-false q (found-least e found (seen .l) (seen .local)))

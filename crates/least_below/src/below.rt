@@ -1,17 +1,18 @@
 // All codes that go on from a branch, against the best so far. The best code goes through every branch: a branch that can only
 // give a later code is left, and one that can give an earlier code cuts it. Numbers are given in place and taken back, and the
 // best code stands in one array, so that nothing is copied.
-use crate::best::choose_at;
-use crate::best::order_at;
 use branches::branch::give_number;
 use branches::branch::take_number;
 use branches::extension::Extension;
 use branches::extension::least_extension;
 use branches::next::next_record;
 use branches::ways::next_tie;
+use least_seen::met::Met;
+use least_seen::met::meet_row;
 use records::code::Code;
 use records::drawing::Drawing;
-use tables::record::Order;
+use tables::record::Record;
+use tables::record::put_record;
 use tables::table::CELLS;
 ghost use mathlib.Core.Path.{_≡_};
 ghost use Prim.Native.Nat.{_<_};
@@ -20,10 +21,11 @@ ghost use Rattle.codes.specs.Code.{recs-in};
 ghost use Rattle.codes.specs.BranchState.{first-state};
 ghost use Rattle.codes.specs.Twins.{Twins-noted};
 ghost use Rattle.branches.specs.Branches.{in-place, Same-arrays};
-ghost use Rattle.least_code.specs.Searches.{Search-from, Search-done, Edges-from, Ways-done};
+ghost use Rattle.least_below.specs.Searches.{Search-from, Search-done, Edges-from, Ways-done};
+ghost use Rattle.least_below.specs.Searches.{Some-anew-from, Anew-done};
 
 // All codes that begin with the t records of a branch. Each call lists one cable more, so that the number of unlisted cables
-// falls. The next record is the least that goes on; a backward one leads to one branch, which has the same numbers.
+// falls. Where the best code has a record t, the branch is first held against that: most branches tie with it or come after it.
 fn search_below(
     drawing: &[u8],
     table: &[u32; CELLS],
@@ -51,13 +53,88 @@ fn search_below(
     if t == m {
         return held;
     }
+    if t < held {
+        let row = Record::at(best, t);
+        match meet_row(table, numbers, used, path, count, low, row) {
+            Met::Later => return held,
+            Met::Back => return search_below(
+                drawing,
+                table,
+                twins,
+                m,
+                t + 1,
+                numbers,
+                used,
+                path,
+                count,
+                given,
+                row.j as usize + 1,
+                best,
+                held,
+            ),
+            Met::Front(q, l) => return search_edges(
+                drawing,
+                table,
+                twins,
+                m,
+                t,
+                numbers,
+                used,
+                path,
+                count,
+                given,
+                low,
+                q,
+                l,
+                best,
+                held,
+            ),
+            Met::Earlier => {}
+        }
+    }
+    search_anew(
+        drawing,
+        table,
+        twins,
+        m,
+        t,
+        numbers,
+        used,
+        path,
+        count,
+        given,
+        low,
+        best,
+    )
+}
+
+// The same where the best code has no record t, or something that goes on comes before it: it is cut to t records, and the
+// least record that goes on is its next. A backward one leads to one branch, which has the same numbers.
+fn search_anew(
+    drawing: &[u8],
+    table: &[u32; CELLS],
+    twins: &[u8; Drawing::MOST_DEVICES],
+    m: usize,
+    t: usize,
+    numbers: &mut [u8; Drawing::MOST_DEVICES],
+    used: &mut [bool; Drawing::MOST_DEVICES],
+    path: &mut [u8; Drawing::MOST_DEVICES],
+    count: usize,
+    given: usize,
+    low: usize,
+    best: &mut [u8; Code::BYTES],
+) -> usize
+    requires { ⌜ Some-anew-from (now drawing) (now table) m (recs-in t (now best))
+        (in-place (now numbers) (now used) (now path) count given low)
+        × Twins-noted (now table) (now twins) × (length (now best) ≡ 100) ⌝ }
+    ensures { λ r. ⌜ Anew-done (now (drawing .entry)) (now (table .entry)) m (recs-in t (now (best .entry)))
+        (in-place (now (numbers .entry)) (now (used .entry)) (now (path .entry)) count given low) (recs-in r (now (best .exit)))
+        × Same-arrays (now (numbers .entry)) (now (numbers .exit)) (now (used .entry)) (now (used .exit))
+        (now (path .entry)) (now (path .exit)) × (length (now (best .exit)) ≡ 100) ⌝ }
+{
     let found = least_extension(table, numbers, used, path, count, low);
     let next = next_record(drawing, numbers, path, count, given, found);
-    let order = order_at(best, held, t, next);
-    if let Order::After = order {
-        return held;
-    }
-    let kept = choose_at(best, held, t, next, order);
+    put_record(best, t, next);
     match found {
         Extension::Chord(_, _) => search_below(
             drawing,
@@ -72,7 +149,7 @@ fn search_below(
             given,
             next.j as usize + 1,
             best,
-            kept,
+            t + 1,
         ),
         Extension::Edge(q, l) => search_edges(
             drawing,
@@ -89,9 +166,9 @@ fn search_below(
             q,
             l,
             best,
-            kept,
+            t + 1,
         ),
-        Extension::None => kept,
+        Extension::None => t + 1,
     }
 }
 
@@ -152,7 +229,7 @@ fn search_edges(
 }
 
 // All codes that begin with one record, from device u to device w.
-pub(crate) fn search_first(
+pub fn search_first(
     drawing: &[u8],
     table: &[u32; CELLS],
     twins: &[u8; Drawing::MOST_DEVICES],

@@ -2,21 +2,17 @@
 -- these are definitions.
 use mathlib.Core.Path.{_≡_}
 use mathlib.Core.Bool.{true}
-use mathlib.Core.List.{List, [], _∷_, _++_}
+use mathlib.Core.List.{List, _∷_, _++_}
 use Prim.Native.Nat.{ℕ, _+_, _≤_, _<_}
 use lib.ListN.{length}
 use Rattle.laws.specs.Lists.{snoc}
-use Rattle.graphs.specs.Drawing.{Cable, Drawing, drawing-in, drawing-refusal}
-use Rattle.graphs.specs.Cables.{Has}
+use Rattle.graphs.specs.Drawing.{drawing-in, drawing-refusal}
 use Rattle.graphs.specs.Graph.{Pattern}
 use Rattle.codes.specs.Code.{Rec, fresh, recs-in, read-rows, kinds-before, rec-before}
 use Rattle.codes.specs.CodeOrder.{kinds-order}
-use Rattle.codes.specs.FirstRecord.{first-record}
 use Rattle.codes.specs.Tight.{Tight}
 use Rattle.codes.specs.Searched.{Best, Searched, Ties, Chosen}
-use Rattle.codes.specs.Started.{Started}
 use Rattle.codes.specs.BranchState.{Labels, State, numbering, Represents}
-use Rattle.records.specs.DrawingCables.{cable-at, cables-before}
 use Rattle.tables.specs.declared.«record».Order.{Order}
 use Rattle.tables.specs.declared.«record».Order.the-variants.{Before, Equal, After}
 use Rattle.branches.specs.declared.extension.Extension.{Extension}
@@ -57,6 +53,19 @@ chosen-rows Before γ e best = snoc γ e
 chosen-rows Equal γ e best = best
 chosen-rows After γ e best = best
 
+-- THE SEARCH GOES ON ANEW from the rows γ: no record of the best is behind them, or what is found comes before it
+pub record Anew-from (bs table : List ℕ) (m : ℕ) (γ : List Rec) (b : State) (best : List Rec) : Type 0 where
+  pub from : Search-from bs table m γ b best
+  pub more : length γ < m
+  pub before : (e : Extension) → Extension-found table b e → Against γ best (found-record (drawing-in bs) b e) Before
+
+-- whatever the best was
+abbrev pub Some-anew-from : (bs table : List ℕ) (m : ℕ) (γ : List Rec) (b : State) → Type 0
+Some-anew-from bs table m γ b = (best : List Rec) × Anew-from bs table m γ b best
+
+abbrev pub Anew-done : (bs table : List ℕ) (m : ℕ) (γ : List Rec) (b : State) (after : List Rec) → Type 0
+Anew-done bs table m γ b after = (best : List Rec) → Anew-from bs table m γ b best → Search-done bs γ b best after
+
 -- TIES: the numberings that the ways below n lead to
 pub record Led-below (table : List ℕ) (b : State) (e : Extension) (n : ℕ) (g : List ℕ) : Type 0 where
   pub w : ℕ
@@ -80,42 +89,3 @@ Edges-from bs table m t b q l first held = (best : List Rec) × Next-chosen bs t
 abbrev pub Ways-done : (bs table : List ℕ) (t : ℕ) (b : State) (e : Extension) (first : List ℕ) (held : ℕ) (now : List ℕ) (kept n : ℕ) → Type 0
 Ways-done bs table t b e first held now kept n =
     Ties kinds-before kinds-order (drawing-in bs) (recs-in (t + 1) first) (recs-in held first) (recs-in kept now) (Led-below table b e n)
-
--- A START: a cable one way round
-pub record Start-from (bs table : List ℕ) (m u w k : ℕ) (best : List Rec) : Type 0 where
-  pub given : Given bs table m
-  pub has : Has u w k (drawing-in bs .cables)
-  pub so-far : Best kinds-before kinds-order (drawing-in bs) [] best
-
--- it is passed over where the best begins with an earlier record; else all that begins so is searched
-pub data Start-done (d : Drawing) (u w k : ℕ) (best after : List Rec) : Type 0 where
-  passed :
-      (c : Rec) (rest : List Rec) → best ≡ c ∷ rest → rec-before c (first-record d u w k) ≡ true → after ≡ best
-      → Start-done d u w k best after
-  searched :
-      (first : List Rec) → Chosen kinds-before kinds-order d [] (first-record d u w k) best first
-      → Searched kinds-before kinds-order d (first-record d u w k ∷ []) (u ∷ w ∷ []) first after → Start-done d u w k best after
-
--- SEVERAL STARTS: none yet, or what the starts so far establish of the best
-pub data Starts (d : Drawing) (best : List Rec) (Seen : (u w k : ℕ) → Type 0) : Type 0 where
-  no-start : best ≡ [] → ((u w k : ℕ) → Seen u w k → ⊥) → Starts d best Seen
-  some-start : Started kinds-before kinds-order d best Seen → Starts d best Seen
-
--- a cable from either end
-pub record Cable-from (bs table : List ℕ) (m c : ℕ) (best : List Rec) : Type 0 where
-  pub given : Given bs table m
-  pub below : c < m
-  pub so-far : Best kinds-before kinds-order (drawing-in bs) [] best
-
--- some cables are seen, both ways round
-abbrev pub Seen-in : (seen : List Cable) (u w k : ℕ) → Type 0
-Seen-in seen u w k = Has u w k seen
-
--- and cable c too, whichever they are
-abbrev pub One-cable-more : (bs : List ℕ) (c : ℕ) (best after : List Rec) → Type 0
-One-cable-more bs c best after =
-    (seen : List Cable) → Starts (drawing-in bs) best (Seen-in seen) → Starts (drawing-in bs) after (Seen-in (snoc seen (cable-at bs c)))
-
--- a first cable and those before c
-abbrev pub First-and-before : (bs : List ℕ) (first c : ℕ) → List Cable
-First-and-before bs first c = cable-at bs first ∷ cables-before c bs

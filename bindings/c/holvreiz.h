@@ -14,7 +14,7 @@
  * HOLVREIZ_OUTPUT_LENGTH of a catalogue leaves the whole lent output zero. Lent bytes past an answer keep their content.
  * No count reaches 2^32: a catalogue has at most 8,446,368 entries.
  *
- * STACK: holvreiz_catalogue needs about 1.7 MB, also where it refuses; the others need less than 32 KB. A main thread has 8 MB as a
+ * STACK: holvreiz_catalogue needs about 1.74 MB, also where it refuses; the others need less than 32 KB. A main thread has 8 MB as a
  * rule; a thread that calls it should have 4 MB (pthread_attr_setstacksize). There is no heap.
  */
 #ifndef HOLVREIZ_H

@@ -18,7 +18,7 @@
 //! ```
 //!
 //! **Stack.** There is no heap and no state, so that calls from several threads do not disturb each other. [`catalogue`] needs
-//! about 1.7 MB of stack, a refused call too: the main thread has 8 MB as a rule and a thread of `std::thread` 2 MB; one made
+//! about 1.74 MB of stack, a refused call too: the main thread has 8 MB as a rule and a thread of `std::thread` 2 MB; one made
 //! with `std::thread::Builder::stack_size` should have 4 MB or more. The other calls need less than 32 KB.
 #![warn(missing_docs)]
 
@@ -242,7 +242,7 @@ pub fn same(first: &[u8], second: &[u8]) -> Result<bool, Refusal> {
 /// There is an entry for each pattern of at most `limit` cables that at least `threshold` drawings contain; codes rise. Where
 /// the entries don't fit, the whole output is zero and the refusal is [`Refusal::OutputLength`]. How many there are the call
 /// alone can tell: lend more and call again. 65,520 bytes, 1,560 entries, do for most surveys at 2 and 4; no survey has more than
-/// 8,446,368 entries. A catalogue needs about 1.7 MB of stack (see the crate's first page).
+/// 8,446,368 entries. A catalogue needs about 1.74 MB of stack (see the crate's first page).
 pub fn catalogue(
     survey: &[u8],
     threshold: u32,

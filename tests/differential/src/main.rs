@@ -12,6 +12,7 @@ use holvreiz_differential::drawing::{self, Drawing, RECORD};
 use holvreiz_differential::generate::{self, Shape};
 use holvreiz_differential::random::Random;
 use holvreiz_differential::shims::SHIMS;
+use std::collections::HashSet;
 use std::process::ExitCode;
 
 /// Others may be given as the program's arguments.
@@ -200,6 +201,29 @@ mod surveys {
         calls.catalogue(&last_at_fault, 0, 9, |needed| needed);
     }
 
+    /// As many labels as a number of 32 bits has room for as a set, one fewer and one more: all devices of one kind, each cable kind
+    /// a label. The last labels are in two drawings, so that what has them is listed for either threshold.
+    pub fn label_counts(calls: &mut Calls, random: &mut Random) {
+        for labels in [31, 32, 33] {
+            let mut drawing = |first: usize| {
+                let mut drawing = generate::drawing_of(random, 10, 20, 1);
+                for (cable, kind) in drawing.cables.iter_mut().zip(first..) {
+                    cable.kind = 7 * kind as u8;
+                }
+                drawing
+            };
+            let survey = [drawing(0), drawing(labels - 20), drawing(labels - 20)];
+            let kinds: HashSet<u8> = survey
+                .iter()
+                .flat_map(|drawing| drawing.cables.iter().map(|cable| cable.kind))
+                .collect();
+            assert_eq!(kinds.len(), labels);
+            for threshold in [1, 2] {
+                calls.catalogue(&records(&survey), threshold, 4, |needed| needed + 1);
+            }
+        }
+    }
+
     fn survey_of(
         random: &mut Random,
         drawings: usize,
@@ -365,6 +389,7 @@ fn run(calls: &mut Calls, seed: u64) {
     surveys::accepted(calls, random, 20, MIDDLE, 32);
     surveys::damaged(calls, random, 3000);
     surveys::largest(calls, random);
+    surveys::label_counts(calls, random);
 }
 
 fn main() -> ExitCode {

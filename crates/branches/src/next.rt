@@ -2,8 +2,8 @@
 // device in the drawing.
 use crate::branch::device_at;
 use crate::extension::Extension;
+use code_records::record::Record;
 use records::drawing::Drawing;
-use tables::record::Record;
 use tables::table::CELLS;
 use tables::table::cable_kind;
 use tables::table::label;
@@ -13,7 +13,7 @@ ghost use mathlib.Core.Bool.{Bool};
 ghost use mathlib.Core.List.{List};
 ghost use Prim.Native.Nat.{ℕ, _<_, _≤_};
 ghost use Rattle.graphs.specs.Drawing.{devices, kind, drawing-in, drawing-refusal};
-ghost use Rattle.tables.specs.Records.{as-rec};
+ghost use Rattle.code_records.specs.Records.{as-rec};
 ghost use Rattle.branches.specs.Branches.{in-place};
 ghost use Rattle.branches.specs.Ways.{chord-with, edge-with};
 ghost use Rattle.branches.specs.NextRecords.{first-along, Makes-first, found-record, Makes-record};

@@ -11,7 +11,7 @@ use Rattle.codes.specs.Code.{kinds-before}
 use Rattle.codes.specs.CodeOrder.{kinds-order}
 use Rattle.growth.specs.Catalogue.{Entry}
 use Rattle.growth.specs.Catalogues.{catalogue-unique}
-use Rattle.printing.specs.Texts.{refusal-text}
+use Rattle.text_lines.specs.Texts.{refusal-text}
 use Rattle.catalogue.specs.SurveyText.{entries-text, Survey-text-as, Survey-text, Program-text}
 
 -- ONE TEXT

@@ -10,7 +10,7 @@ use Rattle.graphs.specs.Survey as surveys
 use Rattle.graphs.specs.Survey.{survey, survey-refusal}
 use Rattle.growth.specs.Catalogue.{Entry, Catalogue}
 use Rattle.printing.specs.declared.answer.Printed.{Printed}
-use Rattle.printing.specs.Texts.{catalogue-text, refusal-text}
+use Rattle.text_lines.specs.Texts.{catalogue-text, refusal-text}
 use Rattle.printing.specs.Says.{Made}
 
 -- 15 where there is no room for the entries

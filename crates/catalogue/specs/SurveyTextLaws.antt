@@ -21,8 +21,8 @@ use Rattle.records.specs.declared.catalogued.Catalogued.{Catalogued}
 use Rattle.records.specs.declared.catalogued.Catalogued.the-variants.{Entries, Refused}
 use Rattle.printing.specs.declared.answer.Printed.{Printed}
 use Rattle.printing.specs.declared.answer.Printed.the-variants.{Bytes, TooShort}
-use Rattle.printing.specs.Texts.{catalogue-text, refusal-text, text-of}
-use Rattle.printing.specs.TextLaws.{entries-back}
+use Rattle.text_lines.specs.Texts.{catalogue-text, refusal-text, text-of}
+use Rattle.text_lines.specs.TextLaws.{entries-back}
 use Rattle.printing.specs.TextSizes.{Bytes-in, Machine-numbers, text-size}
 use Rattle.printing.specs.Says.{Made, Text-says}
 use Rattle.printing.specs.SaysLaws.{made-whole}

@@ -1,10 +1,9 @@
 // The program: reads a survey from standard input and prints its usual catalogue. What fails is told on standard error.
-mod input; // input.rt: reading a survey
 mod text; // text.rt: the text of a survey's usual catalogue
 
-use input::INPUT_BYTES;
-use input::Input;
-use input::read_survey;
+use survey_input::input::INPUT_BYTES;
+use survey_input::input::Input;
+use survey_input::input::read_survey;
 use text::ENTRY_BYTES;
 use text::TEXT_BYTES;
 use text::whole_text;

@@ -1,5 +1,2 @@
--- Definitions.
-pub mod Reached
--- Laws over them.
-pub mod ReachedLaws
+-- Laws.
 pub mod SurveyLaws

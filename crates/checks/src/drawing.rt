@@ -1,14 +1,14 @@
 // Whether a drawing is accepted: refusals 1 to 8, place by place as the paper lists them.
-use crate::cables::check_cables;
-use crate::reached::connected;
-use crate::zeros::all_zero;
+use drawing_checks::cables::check_cables;
+use drawing_checks::reached::all_reached;
+use drawing_checks::zeros::all_zero;
 use records::drawing::Drawing;
 use records::refusal::Checked;
 use records::refusal::Refusal;
 ghost use mathlib.Core.Path.{_≡_};
 ghost use Rattle.graphs.specs.Drawing.{unused-zero, drawing-refusal};
 ghost use Rattle.records.specs.Refusals.{checked-number};
-ghost use Rattle.checks.specs.Reached.{Sound-cables};
+ghost use Rattle.drawing_checks.specs.Reached.{Sound-cables};
 ghost use Rattle.records.specs.Drawings.{rest-refusal, Counts-within};
 
 // Whether the kind bytes past the last device's and the cable bytes past the last cable's are zero.
@@ -29,7 +29,7 @@ fn check_rest(drawing: &[u8], counts: Drawing) -> Checked
     if !unused_zero(drawing, counts) {
         return Checked::Refused(Refusal::UnusedByte);
     }
-    if connected(drawing, counts) {
+    if all_reached(drawing, counts) {
         Checked::Accepted
     } else {
         Checked::Refused(Refusal::NotConnected)

@@ -1,6 +1,3 @@
 // Checks: whether a drawing or a survey is accepted, or the first reason to refuse it.
 pub mod drawing; // drawing.rt: refusals 1 to 8
 pub mod survey; // survey.rt: refusals 1, 14 and 2 to 8 with the drawing
-mod cables; // cables.rt: refusals 4 to 6
-mod reached; // reached.rt: the devices that cables lead to, refusal 8
-mod zeros; // zeros.rt: bytes that are all zero, refusal 7

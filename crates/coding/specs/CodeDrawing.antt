@@ -8,9 +8,9 @@ use lib.ListN.{length}
 use Rattle.graphs.specs.Drawing.{Drawing, drawing-in, drawing-refusal}
 use Rattle.codes.specs.Code.{Rec, rec-bytes, Least}
 use Rattle.records.specs.Refusals.{first-of}
-use Rattle.coding.specs.declared.answer.Written.{Written}
-use Rattle.coding.specs.declared.answer.Written.the-variants.{Bytes}
-use Rattle.coding.specs.Answers.{numbers, written-numbers}
+use Rattle.code_checks.specs.declared.answer.Written.{Written}
+use Rattle.code_checks.specs.declared.answer.Written.the-variants.{Bytes}
+use Rattle.code_checks.specs.Answers.{numbers, written-numbers}
 use Rattle.laws.specs.Lent.{in-front}
 
 -- 1 to 8, then 15: output too short for the whole answer, 5 times m bytes

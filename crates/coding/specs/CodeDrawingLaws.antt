@@ -22,9 +22,9 @@ use Rattle.records.specs.declared.refusal.Refusal.the-variants.{OutputLength}
 use Rattle.records.specs.Refusals.{number-of, number-positive}
 use Rattle.records.specs.RefusalLaws.{first-some, first-none}
 use Rattle.records.specs.Codes.{code-bytes}
-use Rattle.coding.specs.declared.answer.Written.{Written}
-use Rattle.coding.specs.declared.answer.Written.the-variants.{Bytes, Refused}
-use Rattle.coding.specs.Answers.{numbers, written-numbers}
+use Rattle.code_checks.specs.declared.answer.Written.{Written}
+use Rattle.code_checks.specs.declared.answer.Written.the-variants.{Bytes, Refused}
+use Rattle.code_checks.specs.Answers.{numbers, written-numbers}
 use Rattle.laws.specs.Lent.{in-front}
 use Rattle.readings.specs.Readings.{held-records}
 use Rattle.coding.specs.CodeDrawing.{coding-refusal, Code-as, Code-says}

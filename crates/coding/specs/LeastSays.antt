@@ -6,10 +6,10 @@ use Prim.Native.Nat.{ℕ}
 use Rattle.codes.specs.Code.{Rec, decoded, Least}
 use Rattle.records.specs.declared.refusal.Checked.{Checked}
 use Rattle.records.specs.declared.refusal.Checked.the-variants as checked
-use Rattle.coding.specs.declared.answer.Verdict.{Verdict}
+use Rattle.code_checks.specs.declared.answer.Verdict.{Verdict}
 use Rattle.readings.specs.Readings.{code-checked}
 use Rattle.codes.specs.Code.{code-records}
-use Rattle.coding.specs.declared.answer.Verdict.the-variants as verdict
+use Rattle.code_checks.specs.declared.answer.Verdict.the-variants as verdict
 
 -- yes exactly if the records are the least code of what they describe
 abbrev pub Least-answer : Checked → List Rec → Verdict → Type 0

@@ -1,6 +1,6 @@
 // The least code of a drawing, written in front of the lent bytes.
-use crate::answer::Written;
 use checks::drawing::check_drawing;
+use code_checks::answer::Written;
 use least_code::search::least_code;
 use records::code::Code;
 use records::drawing::Drawing;

@@ -1,7 +1,7 @@
 // Whether a code is the least of the drawing that it describes: it is unless some start of that drawing leads to a code
 // before it.
-use crate::answer::Verdict;
-use crate::check::check_code;
+use code_checks::answer::Verdict;
+use code_checks::check::check_code;
 use least_test::starts::some_start_better;
 use records::code::Code;
 use records::drawing::Drawing;

@@ -36,13 +36,13 @@ use Rattle.records.specs.declared.refusal.Checked.{Checked}
 use Rattle.records.specs.declared.refusal.Checked.the-variants.{Accepted, Refused}
 use Rattle.records.specs.Refusals.{checked-number, number-positive}
 use Rattle.records.specs.RefusalLaws.{first-none}
-use Rattle.coding.specs.declared.answer.Written.{Written}
-use Rattle.coding.specs.declared.answer.Written.the-variants.{Bytes}
+use Rattle.code_checks.specs.declared.answer.Written.{Written}
+use Rattle.code_checks.specs.declared.answer.Written.the-variants.{Bytes}
 use Rattle.laws.specs.Lent.{in-front}
-use Rattle.coding.specs.Answers.{put-answer, put-bytes}
+use Rattle.code_checks.specs.Answers.{put-answer, put-bytes}
 use Rattle.coding.specs.CodeDrawing.{coding-refusal, Code-as, Code-says, Least-written}
-use Rattle.coding.specs.Decoding.{decode-checked, Decode-says}
-use Rattle.coding.specs.DecodingLaws.{decode-checked-number}
+use Rattle.decoding.specs.Decoding.{decode-checked, Decode-says}
+use Rattle.decoding.specs.DecodingLaws.{decode-checked-number}
 use Rattle.demands.specs.Coding.{equal-bytes-exactly-same}
 use Rattle.demands.specs.Terms.{written-bytes, Mapped, Drawn}
 

@@ -28,16 +28,16 @@ use Rattle.records.specs.declared.refusal.Checked.{Checked}
 use Rattle.records.specs.declared.refusal.Checked.the-variants.{Accepted, Refused}
 use Rattle.records.specs.Refusals.{checked-number}
 use Rattle.records.specs.RefusalLaws.{first-none}
-use Rattle.coding.specs.declared.answer.Written.{Written}
-use Rattle.coding.specs.declared.answer.Written.the-variants as written
-use Rattle.coding.specs.declared.answer.Verdict.{Verdict}
-use Rattle.coding.specs.declared.answer.Verdict.the-variants as verdict
+use Rattle.code_checks.specs.declared.answer.Written.{Written}
+use Rattle.code_checks.specs.declared.answer.Written.the-variants as written
+use Rattle.code_checks.specs.declared.answer.Verdict.{Verdict}
+use Rattle.code_checks.specs.declared.answer.Verdict.the-variants as verdict
 use Rattle.laws.specs.Lent.{in-front}
-use Rattle.coding.specs.Answers.{put-answer, put-bytes, verdict-numbers}
+use Rattle.code_checks.specs.Answers.{put-answer, put-bytes, verdict-numbers}
 use Rattle.readings.specs.Readings.{code-checked}
-use Rattle.coding.specs.CheckLaws.{code-checked-number, accepted-checked}
+use Rattle.code_checks.specs.CheckLaws.{code-checked-number, accepted-checked}
 use Rattle.coding.specs.CodeDrawing.{coding-refusal, Code-as, Code-says, Least-written}
-use Rattle.coding.specs.Decoding.{decode-checked, Decode-says}
+use Rattle.decoding.specs.Decoding.{decode-checked, Decode-says}
 use Rattle.coding.specs.LeastSays.{Least-answer, Least-says}
 use Rattle.demands.specs.Terms.{written-bytes}
 

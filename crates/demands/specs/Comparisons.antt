@@ -9,14 +9,14 @@ use Rattle.laws.specs.Tests.{true-and-false, false-unless}
 use Rattle.codes.specs.Code.{Rec, code-records, code-refusal, rec-bytes, before, kinds-before}
 use Rattle.codes.specs.CodeOrder.{kinds-order, before-strict}
 use Rattle.codes.specs.CodeBytes.{accepted-code}
-use Rattle.tables.specs.declared.«record».Order.{Order}
-use Rattle.tables.specs.declared.«record».Order.the-variants as order
-use Rattle.coding.specs.declared.answer.Compared.{Compared}
-use Rattle.coding.specs.declared.answer.Compared.the-variants.{Before, Equal, After}
-use Rattle.coding.specs.Answers.{compared-numbers}
-use Rattle.coding.specs.Comparing.{codes-order, order-answer, Compare-says}
-use Rattle.coding.specs.ComparingLaws.{codes-order-equal}
-use Rattle.coding.specs.CheckLaws.{accepted-checked}
+use Rattle.code_records.specs.declared.«record».Order.{Order}
+use Rattle.code_records.specs.declared.«record».Order.the-variants as order
+use Rattle.code_checks.specs.declared.answer.Compared.{Compared}
+use Rattle.code_checks.specs.declared.answer.Compared.the-variants.{Before, Equal, After}
+use Rattle.code_checks.specs.Answers.{compared-numbers}
+use Rattle.comparing.specs.Comparing.{codes-order, order-answer, Compare-says}
+use Rattle.comparing.specs.ComparingLaws.{codes-order-equal}
+use Rattle.code_checks.specs.CheckLaws.{accepted-checked}
 
 -- two cases of an answer are apart
 abbrev case-number : Compared → ℕ

@@ -21,16 +21,16 @@ use Rattle.records.specs.Surveys.{Survey-answer}
 use Rattle.readings.specs.Readings.{code-checked}
 use Rattle.reader.specs.declared.reader.Opened.{Opened}
 use Rattle.reader.specs.Readers.{Opens}
-use Rattle.coding.specs.declared.answer.Written.{Written}
-use Rattle.coding.specs.declared.answer.Verdict.{Verdict}
-use Rattle.coding.specs.declared.answer.Verdict.the-variants as verdict
-use Rattle.coding.specs.declared.answer.Compared.{Compared}
-use Rattle.coding.specs.declared.answer.Compared.the-variants as compared
-use Rattle.coding.specs.Answers.{written-numbers, verdict-numbers, compared-numbers}
+use Rattle.code_checks.specs.declared.answer.Written.{Written}
+use Rattle.code_checks.specs.declared.answer.Verdict.{Verdict}
+use Rattle.code_checks.specs.declared.answer.Verdict.the-variants as verdict
+use Rattle.code_checks.specs.declared.answer.Compared.{Compared}
+use Rattle.code_checks.specs.declared.answer.Compared.the-variants as compared
+use Rattle.code_checks.specs.Answers.{written-numbers, verdict-numbers, compared-numbers}
 use Rattle.coding.specs.CodeDrawing.{Code-says, Least-written}
-use Rattle.coding.specs.Decoding.{Decode-says}
+use Rattle.decoding.specs.Decoding.{Decode-says}
 use Rattle.coding.specs.LeastSays.{Least-says}
-use Rattle.coding.specs.Comparing.{Compare-says}
+use Rattle.comparing.specs.Comparing.{Compare-says}
 use Rattle.matching.specs.declared.answer.Matched.{Matched}
 use Rattle.matching.specs.declared.answer.Matched.the-variants as matched
 use Rattle.matching.specs.declared.answer.Sameness.{Sameness}
@@ -38,7 +38,7 @@ use Rattle.matching.specs.declared.answer.Sameness.the-variants as sameness
 use Rattle.matching.specs.MatchAnswers.{match-refusal, match-count, same-refusal, same-value, Match-says, Same-says}
 use Rattle.mining.specs.CatalogueSays.{Catalogue-says}
 use Rattle.printing.specs.declared.answer.Printed.{Printed}
-use Rattle.printing.specs.Texts.{text-of}
+use Rattle.text_lines.specs.Texts.{text-of}
 use Rattle.printing.specs.Says.{Text-says}
 use Rattle.holvreiz.specs.Returns.{
   Code-returns,

@@ -33,16 +33,16 @@ use Rattle.records.specs.Surveys.{survey-checked, Survey-answer}
 use Rattle.records.specs.declared.catalogued.Catalogued.{Catalogued}
 use Rattle.records.specs.declared.catalogued.Catalogued.the-variants.{Entries, Refused}
 use Rattle.records.specs.Catalogued.{catalogued-refusal, catalogued-count}
-use Rattle.coding.specs.declared.answer.Written.{Written}
-use Rattle.coding.specs.declared.answer.Written.the-variants as written
-use Rattle.coding.specs.declared.answer.Verdict.{Verdict}
-use Rattle.coding.specs.declared.answer.Compared.{Compared}
-use Rattle.coding.specs.Answers.{Numbers, written-numbers, verdict-numbers, compared-numbers}
+use Rattle.code_checks.specs.declared.answer.Written.{Written}
+use Rattle.code_checks.specs.declared.answer.Written.the-variants as written
+use Rattle.code_checks.specs.declared.answer.Verdict.{Verdict}
+use Rattle.code_checks.specs.declared.answer.Compared.{Compared}
+use Rattle.code_checks.specs.Answers.{Numbers, written-numbers, verdict-numbers, compared-numbers}
 use Rattle.readings.specs.Readings.{code-checked}
 use Rattle.coding.specs.CodeDrawing.{coding-refusal, Code-as, Code-says}
-use Rattle.coding.specs.Decoding.{Decode-says}
+use Rattle.decoding.specs.Decoding.{Decode-says}
 use Rattle.coding.specs.LeastSays.{Least-answer, Least-says}
-use Rattle.coding.specs.Comparing.{Compare-says}
+use Rattle.comparing.specs.Comparing.{Compare-says}
 use Rattle.matching.specs.declared.answer.Matched.{Matched}
 use Rattle.matching.specs.declared.answer.Matched.the-variants as matched
 use Rattle.matching.specs.declared.answer.Sameness.{Sameness}
@@ -65,7 +65,7 @@ use Rattle.reader.specs.declared.reader.Fetched.{Fetched}
 use Rattle.reader.specs.Readers.{Opens, Fetches, Fetch-gives}
 use Rattle.reader.specs.ReaderLaws.{refused-fetch, fetch-past, fetched-drawing}
 use Rattle.printing.specs.declared.answer.Printed.{Printed}
-use Rattle.printing.specs.Texts.{text-of}
+use Rattle.text_lines.specs.Texts.{text-of}
 use Rattle.printing.specs.Says.{Made, Text-says}
 use Rattle.holvreiz.specs.Packed.{packed, packed-numbers}
 use Rattle.holvreiz.specs.Returns.{

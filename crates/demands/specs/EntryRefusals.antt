@@ -19,14 +19,14 @@ use Rattle.records.specs.declared.catalogued.Catalogued.{Catalogued}
 use Rattle.records.specs.Refusals.{checked-number, number-positive, first-of}
 use Rattle.records.specs.Surveys.{survey-checked, Survey-answer}
 use Rattle.readings.specs.Readings.{code-checked}
-use Rattle.coding.specs.Answers.{written-numbers, verdict-numbers, compared-numbers}
-use Rattle.coding.specs.CheckLaws.{code-checked-number}
+use Rattle.code_checks.specs.Answers.{written-numbers, verdict-numbers, compared-numbers}
+use Rattle.code_checks.specs.CheckLaws.{code-checked-number}
 use Rattle.matching.specs.MatchAnswers.{match-refusal, match-count, same-refusal, same-value}
 use Rattle.reader.specs.declared.reader.Opened.{Opened}
 use Rattle.reader.specs.Readers.{Opens}
 use Rattle.reader.specs.ReaderLaws.{refused-fetch, fetch-past, fetched-drawing}
 use Rattle.printing.specs.declared.answer.Printed.{Printed}
-use Rattle.printing.specs.Texts.{text-of}
+use Rattle.text_lines.specs.Texts.{text-of}
 use Rattle.printing.specs.Says.{Made, Text-says}
 use Rattle.holvreiz.specs.PackedLaws.{Tells}
 use Rattle.holvreiz.specs.Returns.{

@@ -22,19 +22,19 @@ use Rattle.records.specs.declared.refusal.Checked.{Checked}
 use Rattle.records.specs.declared.refusal.Checked.the-variants.{Accepted, Refused}
 use Rattle.records.specs.Refusals.{checked-number}
 use Rattle.records.specs.Refusals.{first-of}
-use Rattle.coding.specs.declared.answer.Written.{Written}
-use Rattle.coding.specs.declared.answer.Verdict.{Verdict}
-use Rattle.coding.specs.declared.answer.Compared.{Compared}
-use Rattle.coding.specs.Answers.{written-numbers, verdict-numbers, compared-numbers, Numbers, numbers, put-bytes}
-use Rattle.coding.specs.AnswerLaws.{put-numbers}
+use Rattle.code_checks.specs.declared.answer.Written.{Written}
+use Rattle.code_checks.specs.declared.answer.Verdict.{Verdict}
+use Rattle.code_checks.specs.declared.answer.Compared.{Compared}
+use Rattle.code_checks.specs.Answers.{written-numbers, verdict-numbers, compared-numbers, Numbers, numbers, put-bytes}
+use Rattle.code_checks.specs.AnswerLaws.{put-numbers}
 use Rattle.readings.specs.Readings.{code-checked}
-use Rattle.coding.specs.CheckLaws.{code-checked-number}
+use Rattle.code_checks.specs.CheckLaws.{code-checked-number}
 use Rattle.coding.specs.CodeDrawing.{coding-refusal, Code-as, Code-says}
-use Rattle.coding.specs.Decoding.{decode-checked, decoded-bytes, Decode-says}
-use Rattle.coding.specs.DecodingLaws.{decode-checked-number}
+use Rattle.decoding.specs.Decoding.{decode-checked, decoded-bytes, Decode-says}
+use Rattle.decoding.specs.DecodingLaws.{decode-checked-number}
 use Rattle.coding.specs.LeastSays.{Least-answer, Least-says}
-use Rattle.coding.specs.Comparing.{compared-count, Compare-says}
-use Rattle.coding.specs.ComparingLaws.{compare-says-numbers}
+use Rattle.comparing.specs.Comparing.{compared-count, Compare-says}
+use Rattle.comparing.specs.ComparingLaws.{compare-says-numbers}
 use Rattle.matching.specs.declared.answer.Matched.{Matched}
 use Rattle.matching.specs.declared.answer.Sameness.{Sameness}
 use Rattle.matching.specs.MatchAnswers.{

@@ -10,18 +10,18 @@ use Rattle.codes.specs.CodeBytes.{rec-bytes-length}
 use Rattle.codes.specs.ReadRows.{good-from-test}
 use Rattle.records.specs.declared.refusal.Checked.{Checked}
 use Rattle.records.specs.declared.refusal.Checked.the-variants.{Accepted, Refused}
-use Rattle.coding.specs.declared.answer.Written.{Written}
-use Rattle.coding.specs.declared.answer.Written.the-variants as written
-use Rattle.coding.specs.declared.answer.Verdict.{Verdict}
-use Rattle.coding.specs.declared.answer.Verdict.the-variants as verdict
-use Rattle.coding.specs.declared.answer.Compared.{Compared}
-use Rattle.coding.specs.declared.answer.Compared.the-variants as compared
-use Rattle.coding.specs.Answers.{Numbers, written-numbers, verdict-numbers, compared-numbers, put-answer}
+use Rattle.code_checks.specs.declared.answer.Written.{Written}
+use Rattle.code_checks.specs.declared.answer.Written.the-variants as written
+use Rattle.code_checks.specs.declared.answer.Verdict.{Verdict}
+use Rattle.code_checks.specs.declared.answer.Verdict.the-variants as verdict
+use Rattle.code_checks.specs.declared.answer.Compared.{Compared}
+use Rattle.code_checks.specs.declared.answer.Compared.the-variants as compared
+use Rattle.code_checks.specs.Answers.{Numbers, written-numbers, verdict-numbers, compared-numbers, put-answer}
 use Rattle.records.specs.Refusals.{or-else}
 use Rattle.readings.specs.Readings.{code-checked}
 use Rattle.coding.specs.CodeDrawing.{coding-refusal, Code-as, Code-says}
-use Rattle.coding.specs.Decoding.{decode-checked, decoded-bytes}
-use Rattle.coding.specs.DecodingLaws.{decoded-length}
+use Rattle.decoding.specs.Decoding.{decode-checked, decoded-bytes}
+use Rattle.decoding.specs.DecodingLaws.{decoded-length}
 use Rattle.matching.specs.declared.answer.Matched.{Matched}
 use Rattle.matching.specs.declared.answer.Matched.the-variants as matched
 use Rattle.matching.specs.declared.answer.Sameness.{Sameness}

@@ -5,7 +5,7 @@ use mathlib.Core.List.{List}
 use Prim.Native.Nat.{ℕ, _*_, _≤_}
 use lib.ListN.{length}
 use Rattle.graphs.specs.Drawing.{drawing-in, accepted}
-use Rattle.coding.specs.declared.answer.Written.{Written}
+use Rattle.code_checks.specs.declared.answer.Written.{Written}
 use Rattle.coding.specs.CodeDrawing.{Code-says}
 use Rattle.matching.specs.declared.answer.Sameness.{Sameness}
 use Rattle.matching.specs.declared.answer.Sameness.the-variants.{Yes}

@@ -18,8 +18,8 @@ use Rattle.graphs.specs.Survey.{survey, length-refusal, bytes-refusal, survey-r
 use Rattle.codes.specs.Code.{Rec, recs-in, decoded, Code-of, Least, rec-before, before}
 use Rattle.growth.specs.Catalogue.{Entry, entry, Catalogue, entry-bytes, all-bytes}
 use Rattle.records.specs.declared.refusal.Refusal.the-variants.{OutputLength}
-use Rattle.coding.specs.declared.answer.Written.{Written}
-use Rattle.coding.specs.declared.answer.Written.the-variants as written
+use Rattle.code_checks.specs.declared.answer.Written.{Written}
+use Rattle.code_checks.specs.declared.answer.Written.the-variants as written
 use Rattle.laws.specs.Lent.{in-front}
 use Rattle.records.specs.declared.catalogued.Catalogued.{Catalogued}
 use Rattle.records.specs.declared.catalogued.Catalogued.the-variants.{Entries, Refused}

@@ -2,11 +2,11 @@
 // has them.
 use checks::drawing::check_drawing;
 use checks::survey::check_survey;
-use coding::answer::Compared;
-use coding::answer::Verdict;
-use coding::check::check_code;
-use coding::compare::compare;
+use code_checks::answer::Compared;
+use code_checks::answer::Verdict;
+use code_checks::check::check_code;
 use coding::least::is_least;
+use comparing::compare::compare;
 use matching::answer::Sameness;
 use matching::same::same;
 use transcript::answer::Answer;

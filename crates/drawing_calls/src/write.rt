@@ -1,7 +1,7 @@
 // The calls that are lent output, with their answers as numbers.
-use coding::answer::Written;
+use code_checks::answer::Written;
 use coding::code::code_drawing;
-use coding::decode::decode;
+use decoding::decode::decode;
 use matching::answer::Matched;
 use matching::map::match_drawing;
 use transcript::answer::Answer;

@@ -32,8 +32,8 @@ use Rattle.walks.specs.LabelMarks.{drawings-of}
 use Rattle.walks.specs.PreparedLaws.{drawings-counted, prepared-few, prepared-patterns}
 use Rattle.laws.specs.Parts.{part}
 use Rattle.laws.specs.PartLaws.{part-none, part-snoc, part-split, part-has}
-use Rattle.candidates.specs.HeldCode.{basis, Can-read, Code-held, Code-kept}
-use Rattle.candidates.specs.HeldCodeLaws.{records-kept, held-kept}
+use Rattle.extending.specs.HeldCode.{basis, Can-read, Code-held, Code-kept}
+use Rattle.extending.specs.HeldCodeLaws.{records-kept, held-kept}
 use Rattle.looking.specs.Looking.{May-come, Hopeless, Can-look-on, Looked-on}
 use Rattle.codes.specs.OwnNumbering.{Well-grown}
 use Rattle.growing.specs.PatternGrowth.{lists-same}

@@ -31,7 +31,7 @@ use Rattle.walks.specs.Prepared.{Prepared}
 use Rattle.walks.specs.Counts.{Blank}
 use Rattle.laws.specs.Parts.{part}
 use Rattle.walks.specs.Choices.{List-kept}
-use Rattle.candidates.specs.HeldCode.{basis}
+use Rattle.extending.specs.HeldCode.{basis}
 
 -- WHAT STAYS THE SAME: the survey prepared, a threshold and a size limit within their bounds
 pub record Set-up (survey labels rank alphabet : List ℕ) (g : Settings) : Type 0 where

@@ -46,7 +46,7 @@ use Rattle.walks.specs.Counts.{Can-count}
 use Rattle.laws.specs.Parts.{part}
 use Rattle.walks.specs.Choices.{List-kept}
 use Rattle.choosing.specs.NextChosen.{Room-to-choose, Candidates-chosen}
-use Rattle.candidates.specs.HeldCode.{Code-held}
+use Rattle.extending.specs.HeldCode.{Code-held}
 use Rattle.taking.specs.Taking.{Can-take-candidate, Entry-put, Candidate-taken, over-of, full-of, count-of, Taken-on, Entry-goes-on}
 use Rattle.growing.specs.GrowthOutcomes.{
   growth-of,

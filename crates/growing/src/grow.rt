@@ -3,13 +3,13 @@
 use candidates::choose::CANDIDATES;
 use choosing::next::choose_next;
 use embeddings::rows::KEPT;
+use label_ranks::ranks::ALPHABET;
+use label_ranks::ranks::LABELS;
 use listing::level::ENDS;
 use looking::ahead::next_hopeful;
 use marking::cells::PLACES;
 use records::code::Code;
 use surveys::labels::TABLES;
-use surveys::ranks::ALPHABET;
-use surveys::ranks::LABELS;
 use taking::take::TakenOn;
 use taking::take::take_on;
 ghost use mathlib.Core.Path.{_≡_};
@@ -20,7 +20,7 @@ ghost use Rattle.walks.specs.EmbeddingLists.{Lists-kept};
 ghost use Rattle.growing.specs.ListsHanded.{Lists-below, Lists-at};
 ghost use Rattle.growing.specs.GrowthOutcomes.{growth-of, Can-grow-pattern};
 ghost use Rattle.growing.specs.GrowthOutcomes.{Pattern-grown, Can-walk-candidates, Candidates-walked};
-ghost use Rattle.candidates.specs.HeldCode.{Code-held, Code-kept};
+ghost use Rattle.extending.specs.HeldCode.{Code-held, Code-kept};
 
 // What a catalogue is asked for: the number of the survey's labels, how many drawings have to contain a pattern, and how
 // many cables it may have.

@@ -1,6 +1,6 @@
 -- An answer as one number. Assumes nothing: these are definitions.
 use Prim.Native.Nat.{ℕ, _+_, _*_}
-use Rattle.coding.specs.Answers.{Numbers}
+use Rattle.code_checks.specs.Answers.{Numbers}
 
 -- a refusal is 0 for an answer; the drawing is counted from 0, and is 0 where no drawing is at fault
 abbrev pub packed : (refusal count drawing : ℕ) → ℕ

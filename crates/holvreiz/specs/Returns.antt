@@ -3,14 +3,14 @@
 use mathlib.Core.Path.{_≡_}
 use mathlib.Core.List.{List}
 use Prim.Native.Nat.{ℕ}
-use Rattle.coding.specs.declared.answer.Written.{Written}
-use Rattle.coding.specs.declared.answer.Verdict.{Verdict}
-use Rattle.coding.specs.declared.answer.Compared.{Compared}
-use Rattle.coding.specs.Answers.{written-numbers, verdict-numbers, compared-numbers}
+use Rattle.code_checks.specs.declared.answer.Written.{Written}
+use Rattle.code_checks.specs.declared.answer.Verdict.{Verdict}
+use Rattle.code_checks.specs.declared.answer.Compared.{Compared}
+use Rattle.code_checks.specs.Answers.{written-numbers, verdict-numbers, compared-numbers}
 use Rattle.coding.specs.CodeDrawing.{Code-says}
-use Rattle.coding.specs.Decoding.{Decode-says}
+use Rattle.decoding.specs.Decoding.{Decode-says}
 use Rattle.coding.specs.LeastSays.{Least-says}
-use Rattle.coding.specs.Comparing.{Compare-says}
+use Rattle.comparing.specs.Comparing.{Compare-says}
 use Rattle.matching.specs.declared.answer.Matched.{Matched}
 use Rattle.matching.specs.declared.answer.Sameness.{Sameness}
 use Rattle.matching.specs.MatchAnswers.{match-refusal, match-count, same-refusal, same-value, Match-says, Same-says}

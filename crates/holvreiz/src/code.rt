@@ -1,15 +1,15 @@
 // Coding for other languages: the least code of a drawing, the drawing of a code, the least test, the order of two codes.
 use crate::number::counted;
 use crate::number::refused;
-use coding::answer::Compared;
-use coding::answer::Verdict;
-use coding::answer::Written;
+use code_checks::answer::Compared;
+use code_checks::answer::Verdict;
+use code_checks::answer::Written;
 use coding::code::code_drawing;
-use coding::compare::compare;
-use coding::decode::decode;
 use coding::least::is_least;
+use comparing::compare::compare;
+use decoding::decode::decode;
 ghost use mathlib.Core.Path.{_≡_};
-ghost use Rattle.coding.specs.Answers.{written-numbers, verdict-numbers, compared-numbers};
+ghost use Rattle.code_checks.specs.Answers.{written-numbers, verdict-numbers, compared-numbers};
 ghost use Rattle.holvreiz.specs.Packed.{packed-numbers};
 ghost use Rattle.holvreiz.specs.Returns.{Code-returns, Decode-returns, Least-returns, Compare-returns};
 

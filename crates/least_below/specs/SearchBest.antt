@@ -13,10 +13,10 @@ use Rattle.codes.specs.Code.{Rec, rec-in, recs-in, kinds-before}
 use Rattle.codes.specs.CodeOrder.{kinds-order}
 use Rattle.codes.specs.CodeBytes.{recs-in-length}
 use Rattle.codes.specs.Searched.{Best, Chosen, begun, kept, lowered}
-use Rattle.tables.specs.declared.«record».Order.{Order}
-use Rattle.tables.specs.declared.«record».Order.the-variants.{Before, Equal, After}
-use Rattle.tables.specs.Records.{order-of}
-use Rattle.tables.specs.RecordLaws.{order-before, order-equal, order-after}
+use Rattle.code_records.specs.declared.«record».Order.{Order}
+use Rattle.code_records.specs.declared.«record».Order.the-variants.{Before, Equal, After}
+use Rattle.code_records.specs.Records.{order-of}
+use Rattle.code_records.specs.RecordLaws.{order-before, order-equal, order-after}
 use Rattle.least_below.specs.Searches.{
   Against,
   nothing-there,

@@ -13,8 +13,8 @@ use Rattle.codes.specs.CodeOrder.{kinds-order}
 use Rattle.codes.specs.CodeBytes.{recs-in-length}
 use Rattle.codes.specs.Searched.{Chosen, chosen-best}
 use Rattle.codes.specs.BranchState.{label-of, State, with-chord}
-use Rattle.tables.specs.declared.«record».Order.{Order}
-use Rattle.tables.specs.declared.«record».Order.the-variants.{Before, Equal, After}
+use Rattle.code_records.specs.declared.«record».Order.{Order}
+use Rattle.code_records.specs.declared.«record».Order.the-variants.{Before, Equal, After}
 use Rattle.branches.specs.declared.extension.Extension.{Extension}
 use Rattle.branches.specs.declared.extension.Extension.the-variants.{Chord, Edge, None}
 use Rattle.branches.specs.Extensions.{Extension-found}

@@ -24,7 +24,7 @@ use Rattle.codes.specs.BranchState.{Labels, State, numbering, chord-of, edge-of
 use Rattle.codes.specs.BranchBounds.{Bounds, represents-bounds, numbering-size, device-is, device-kind}
 use Rattle.codes.specs.BranchLaws.{chord-found-local, edge-local}
 use Rattle.codes.specs.BranchLeast.{chord-found-least, edge-found-least, nothing-found}
-use Rattle.tables.specs.declared.«record».Order.the-variants.{Before}
+use Rattle.code_records.specs.declared.«record».Order.the-variants.{Before}
 use Rattle.branches.specs.declared.extension.Extension.{Extension}
 use Rattle.branches.specs.declared.extension.Extension.the-variants.{Chord, Edge, None}
 use Rattle.branches.specs.Extensions.{Extension-found}

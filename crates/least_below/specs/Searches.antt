@@ -13,8 +13,8 @@ use Rattle.codes.specs.CodeOrder.{kinds-order}
 use Rattle.codes.specs.Tight.{Tight}
 use Rattle.codes.specs.Searched.{Best, Searched, Ties, Chosen}
 use Rattle.codes.specs.BranchState.{Labels, State, numbering, Represents}
-use Rattle.tables.specs.declared.«record».Order.{Order}
-use Rattle.tables.specs.declared.«record».Order.the-variants.{Before, Equal, After}
+use Rattle.code_records.specs.declared.«record».Order.{Order}
+use Rattle.code_records.specs.declared.«record».Order.the-variants.{Before, Equal, After}
 use Rattle.branches.specs.declared.extension.Extension.{Extension}
 use Rattle.branches.specs.declared.extension.Extension.the-variants.{Edge}
 use Rattle.branches.specs.Extensions.{Extension-found}

@@ -3,6 +3,7 @@
 use branches::branch::device_at;
 use branches::branch::give_number;
 use branches::branch::take_number;
+use code_records::record::Order;
 use least_seen::seen::chord_order;
 use least_seen::seen::counted_label;
 use least_seen::seen::is_lower;
@@ -11,7 +12,6 @@ use least_seen::seen::some_before;
 use least_seen::seen::wanted_label;
 use records::code::Code;
 use records::drawing::Drawing;
-use tables::record::Order;
 use tables::table::CELLS;
 ghost use Rattle.laws.specs.Decides.{Decides};
 ghost use Rattle.codes.specs.Twins.{Twins-noted};

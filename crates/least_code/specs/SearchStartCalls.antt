@@ -20,8 +20,8 @@ use Rattle.codes.specs.Searched.{Best, Full, Chosen, chosen-best}
 use Rattle.codes.specs.BranchState.{first-state}
 use Rattle.records.specs.DrawingCables.{cable-at, cables-before}
 use Rattle.records.specs.CableLaws.{before-length, before-at, before-next}
-use Rattle.tables.specs.declared.«record».Order.{Order}
-use Rattle.tables.specs.declared.«record».Order.the-variants.{After}
+use Rattle.code_records.specs.declared.«record».Order.{Order}
+use Rattle.code_records.specs.declared.«record».Order.the-variants.{After}
 use Rattle.least_below.specs.Searches.{Given, Search-from, Search-done, Against, chosen-rows}
 use Rattle.least_code.specs.Starting.{Start-from, Start-done, Starts, no-start, Cable-from, Seen-in, One-cable-more, First-and-before}
 use Rattle.least_below.specs.SearchBest.{best-begins, against-chosen}

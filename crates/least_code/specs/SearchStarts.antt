@@ -19,7 +19,7 @@ use Rattle.codes.specs.Started.{Meets, none-yet, lowers, ties, started-skip, st
 use Rattle.codes.specs.BranchState.{label-at, first-state}
 use Rattle.codes.specs.LabelLaws.{Labelled, cable-labelled}
 use Rattle.codes.specs.BranchSteps.{represents-first}
-use Rattle.tables.specs.declared.«record».Order.the-variants.{After}
+use Rattle.code_records.specs.declared.«record».Order.the-variants.{After}
 use Rattle.branches.specs.NextRecords.{first-along, Makes-first}
 use Rattle.least_below.specs.Searches.{Search-from, Search-done, Against, comes-after}
 use Rattle.least_code.specs.Starting.{Start-from, Start-done, passed, searched, Starts, no-start, some-start}

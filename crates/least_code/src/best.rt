@@ -1,13 +1,13 @@
 // The best code so far, in a lent array: its first `held` records.
+use code_records::record::Order;
+use code_records::record::Record;
+use code_records::record::put_record;
 use records::code::Code;
-use tables::record::Order;
-use tables::record::Record;
-use tables::record::put_record;
 ghost use mathlib.Core.Path.{_≡_};
 ghost use Prim.Native.Nat.{_≤_, _<_};
 ghost use lib.ListN.{length};
 ghost use Rattle.codes.specs.Code.{recs-in};
-ghost use Rattle.tables.specs.Records.{as-rec};
+ghost use Rattle.code_records.specs.Records.{as-rec};
 ghost use Rattle.least_below.specs.Searches.{Against, chosen-rows};
 
 // Where the next record comes against record t of the best code, which may have no more than t records yet.

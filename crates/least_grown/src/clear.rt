@@ -1,8 +1,8 @@
 // Codes that are clearly least: every other start has labels after those of the first record, and no forward record could have gone
 // elsewhere. The records alone tell it, so that such a code needs no table of labels.
+use code_records::record::Record;
 use least_test::starts::labels_number;
 use least_test::starts::reversed;
-use tables::record::Record;
 ghost use mathlib.Core.Path.{_≡_};
 ghost use mathlib.Core.Bool.{true};
 ghost use Prim.Native.Nat.{_+_, _*_, _/_, _≤_, _<_};
@@ -10,7 +10,7 @@ ghost use lib.ListN.{length};
 ghost use Rattle.laws.specs.Decides.{Decides};
 ghost use Rattle.codes.specs.Code.{code-records, code-refusal};
 ghost use Rattle.codes.specs.OwnNumbering.{Well-grown};
-ghost use Rattle.tables.specs.Records.{as-rec};
+ghost use Rattle.code_records.specs.Records.{as-rec};
 ghost use Rattle.least_seen.specs.Betters.{Some-start};
 ghost use Rattle.least_grown.specs.ClearlyLeast.{Labels-after, Record-after, Starts-after};
 ghost use Rattle.least_grown.specs.ClearlyLeast.{Goes-alike, Alike-seen, Parts-again, Some-parts};

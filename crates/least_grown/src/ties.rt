@@ -1,7 +1,7 @@
 // Ties of a code's own numbering: forward records that could have gone to another device than the code's. Where there is none, the
 // code's own start leads to its own numbering alone.
+use code_records::record::Record;
 use least_seen::seen::wanted_label;
-use tables::record::Record;
 use tables::table::CELLS;
 use tables::table::label;
 ghost use Prim.Native.Nat.{_<_, _≤_};

@@ -69,8 +69,8 @@ use Rattle.codes.specs.BranchLaws.{
 use Rattle.codes.specs.BranchLeast.{edge-ties}
 use Rattle.codes.specs.BranchSteps.{numbering-with-edge, represents-edge}
 use Rattle.branches.specs.declared.extension.Extension.the-variants.{Chord}
-use Rattle.tables.specs.declared.«record».Order.the-variants.{Equal}
-use Rattle.tables.specs.Records.{order-of}
+use Rattle.code_records.specs.declared.«record».Order.the-variants.{Equal}
+use Rattle.code_records.specs.Records.{order-of}
 use Rattle.branches.specs.Ways.{chord-with}
 use Rattle.least_seen.specs.Betters.{step-order}
 use Rattle.least_seen.specs.BetterLaws.{Sees, next-kind, way-represents, way-better, ways-none}

@@ -33,8 +33,8 @@ use Rattle.codes.specs.BranchBounds.{Bounds}
 use Rattle.codes.specs.Descending.{Path-place}
 use Rattle.codes.specs.LabelLaws.{label-cable}
 use Rattle.codes.specs.TwinBranches.{twin-label, twin-edge-better}
-use Rattle.tables.specs.declared.«record».Order.the-variants.{Before, Equal, After}
-use Rattle.tables.specs.RecordLaws.{record-read}
+use Rattle.code_records.specs.declared.«record».Order.the-variants.{Before, Equal, After}
+use Rattle.code_records.specs.RecordLaws.{record-read}
 use Rattle.tables.specs.CodeRows.{code-simple, record-accepted, records-through, records-on}
 use Rattle.branches.specs.Branches.{chorded, device-placed, Places, Same-arrays}
 use Rattle.branches.specs.InPlaceLaws.{chorded-is, bounds-places, all-same}

@@ -11,8 +11,8 @@ use Rattle.graphs.specs.Drawing.{devices}
 use Rattle.codes.specs.Code.{fresh, rec-in, recs-in, code-records, rows-refusal, read-rows, decoded}
 use Rattle.codes.specs.BranchState.{label-at, label-of, State}
 use Rattle.codes.specs.Twins.{Free-twin}
-use Rattle.tables.specs.declared.«record».Order.{Order}
-use Rattle.tables.specs.declared.«record».Order.the-variants.{Before, Equal, After}
+use Rattle.code_records.specs.declared.«record».Order.{Order}
+use Rattle.code_records.specs.declared.«record».Order.the-variants.{Before, Equal, After}
 use Rattle.branches.specs.Branches.{device-placed}
 use Rattle.least_seen.specs.Betters.{Tabled, Follows}
 

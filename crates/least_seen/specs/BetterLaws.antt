@@ -51,9 +51,9 @@ use Rattle.codes.specs.BranchLeast.{chord-found-least, edge-found-least, edge-t
 use Rattle.codes.specs.BranchSteps.{represents-chord, represents-edge, numbering-with-edge}
 use Rattle.branches.specs.declared.extension.Extension.{Extension}
 use Rattle.branches.specs.declared.extension.Extension.the-variants.{Chord, Edge, None}
-use Rattle.tables.specs.declared.«record».Order.the-variants.{Equal}
-use Rattle.tables.specs.Records.{order-of}
-use Rattle.tables.specs.RecordLaws.{order-equal}
+use Rattle.code_records.specs.declared.«record».Order.the-variants.{Equal}
+use Rattle.code_records.specs.Records.{order-of}
+use Rattle.code_records.specs.RecordLaws.{order-equal}
 use Rattle.branches.specs.Extensions.{Extension-found}
 use Rattle.branches.specs.NextRecords.{Can-record}
 use Rattle.branches.specs.Ways.{Ties-way, Way, followed}

@@ -14,10 +14,10 @@ use Rattle.codes.specs.Better.{Better}
 use Rattle.codes.specs.BranchState.{Labels, State, numbering, Represents}
 use Rattle.branches.specs.declared.extension.Extension.{Extension}
 use Rattle.branches.specs.declared.extension.Extension.the-variants.{Chord, Edge, None}
-use Rattle.tables.specs.declared.«record».Order.{Order}
-use Rattle.tables.specs.declared.«record».Order.the-variants.{After}
+use Rattle.code_records.specs.declared.«record».Order.{Order}
+use Rattle.code_records.specs.declared.«record».Order.the-variants.{After}
 use Rattle.codes.specs.Code.{code-records}
-use Rattle.tables.specs.Records.{order-of}
+use Rattle.code_records.specs.Records.{order-of}
 use Rattle.branches.specs.Ways.{chord-with, edge-with}
 
 -- HOW AN EXTENSION COMPARES with the record e: with e's kind of i, and after it where nothing goes on

@@ -17,8 +17,8 @@ use Rattle.codes.specs.Better.{Sees-before}
 use Rattle.codes.specs.BranchState.{label-of, State, numbering, chord-label, edge-label, Free, No-chord, Edge-found}
 use Rattle.codes.specs.BranchBounds.{Bounds, represents-bounds}
 use Rattle.codes.specs.Descending.{Path-place}
-use Rattle.tables.specs.declared.«record».Order.{Order}
-use Rattle.tables.specs.declared.«record».Order.the-variants.{Before, Equal, After}
+use Rattle.code_records.specs.declared.«record».Order.{Order}
+use Rattle.code_records.specs.declared.«record».Order.the-variants.{Before, Equal, After}
 use Rattle.branches.specs.Branches.{On-path, Places}
 use Rattle.branches.specs.Extensions.{Least-edge}
 use Rattle.branches.specs.InPlaceLaws.{bounds-places, places-at}

@@ -5,13 +5,13 @@ use crate::seen::is_lower;
 use crate::seen::place_of;
 use crate::seen::some_before;
 use branches::extension::least_edge;
+use code_records::record::Order;
+use code_records::record::Record;
 use records::drawing::Drawing;
-use tables::record::Order;
-use tables::record::Record;
 use tables::table::CELLS;
 use tables::table::label_of;
 ghost use Prim.Native.Nat.{_<_};
-ghost use Rattle.tables.specs.Records.{as-rec};
+ghost use Rattle.code_records.specs.Records.{as-rec};
 ghost use Rattle.least_seen.specs.Meetings.{Some-row-next, Row-told};
 
 // Something that goes on comes before the row; the row is the first that does, backward, or forward from a place of the path

@@ -1,9 +1,9 @@
 // What a branch sees before the code's next record: a backward record, a forward one from above, a lower label. Nothing here changes
 // the branch.
 use branches::branch::device_at;
+use code_records::record::Order;
 use records::code::Code;
 use records::drawing::Drawing;
-use tables::record::Order;
 use tables::table::CELLS;
 use tables::table::label;
 use tables::table::label_of;

@@ -1,7 +1,7 @@
 // The starts of a least test: every cable of a code, seen from each of its ends, against the code's first record.
+use code_records::record::Record;
 use least_branches::better::better;
 use records::drawing::Drawing;
-use tables::record::Record;
 use tables::table::CELLS;
 ghost use mathlib.Core.Path.{_≡_};
 ghost use mathlib.Core.Bool.{true, false};
@@ -11,7 +11,7 @@ ghost use Rattle.laws.specs.Rows.{row};
 ghost use Rattle.codes.specs.Code.{decoded, code-records, rec-in};
 ghost use Rattle.codes.specs.BranchState.{first-state};
 ghost use Rattle.codes.specs.Twins.{Twins-noted};
-ghost use Rattle.tables.specs.Records.{as-rec};
+ghost use Rattle.code_records.specs.Records.{as-rec};
 ghost use Rattle.least_seen.specs.Betters.{Better-below, Seen-cable, reversed-record, Begins-better, Some-start};
 ghost use Rattle.least_seen.specs.Accepting.{Test-counts, Test-goes-on};
 ghost use Rattle.least_test.specs.StartNumbers.{Numbers-labels};

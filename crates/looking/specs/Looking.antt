@@ -11,7 +11,7 @@ use Rattle.codes.specs.Greedy.{Greedy}
 use Rattle.codes.specs.OwnNumbering.{Well-grown}
 use Rattle.growth.specs.Places.{record-at}
 use Rattle.growth.specs.Sizes.{candidates-size}
-use Rattle.candidates.specs.HeldCode.{basis, Can-read, Code-held, Appended}
+use Rattle.extending.specs.HeldCode.{basis, Can-read, Code-held, Appended}
 
 -- THE CODE UNDER WORK, in place, which takes the least record at each step
 pub record Code-at-work (code kinds : List ℕ) (m devices : ℕ) : Type 0 where

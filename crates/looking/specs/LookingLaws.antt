@@ -15,7 +15,7 @@ use Rattle.codes.specs.OwnNumbering.{Well-grown}
 use Rattle.growth.specs.Places.{record-at}
 use Rattle.walks.specs.Hopes.{Can-look, Hopeless-if}
 use Rattle.walks.specs.HopeLaws.{grown-well}
-use Rattle.candidates.specs.HeldCode.{basis, Can-read-off, Read-off, Can-append, Appended}
+use Rattle.extending.specs.HeldCode.{basis, Can-read-off, Read-off, Can-append, Appended}
 use Rattle.looking.specs.Looking.{Can-lengthen, Hopeless, Grown-by, Lengthened, Can-look-on, Looked-on, Passed-over}
 
 -- an accepted code of some records has two devices

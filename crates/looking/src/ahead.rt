@@ -1,11 +1,11 @@
 // The next candidate of a code that the look ahead lets through, and the code grown by it in place.
 use candidates::choose::CANDIDATES;
 use candidates::choose::PLACE;
-use candidates::extension::append;
-use candidates::extension::record_at_place;
-use candidates::hopeful::hopeless;
+use extending::extension::append;
+use extending::extension::record_at_place;
+use extending::hopeful::hopeless;
+use label_ranks::ranks::ALPHABET;
 use records::code::Code;
-use surveys::ranks::ALPHABET;
 ghost use Rattle.looking.specs.Looking.{Can-lengthen, Lengthened, Can-look-on, Looked-on};
 
 // A candidate that is worth growing: where it stands in the list, the drawings that contain the code with it, and how many devices

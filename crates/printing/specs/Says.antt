@@ -9,7 +9,7 @@ use Rattle.laws.specs.Lent.{in-front}
 use Rattle.records.specs.declared.catalogued.Catalogued.{Catalogued}
 use Rattle.printing.specs.declared.answer.Printed.{Printed}
 use Rattle.printing.specs.declared.answer.Printed.the-variants.{Bytes, TooShort}
-use Rattle.printing.specs.Texts.{text-of}
+use Rattle.text_lines.specs.Texts.{text-of}
 
 -- a text that does not fit writes nothing
 abbrev pub Made : (too-long : Bool) → (text : List ℕ) → Printed → (out out-now : List ℕ) → Type 0

@@ -11,11 +11,11 @@ use Rattle.laws.specs.Lists.{nil-of-length}
 use Rattle.records.specs.declared.catalogued.Catalogued.{Catalogued}
 use Rattle.printing.specs.declared.answer.Printed.{Printed}
 use Rattle.printing.specs.declared.answer.Printed.the-variants.{Bytes, TooShort}
-use Rattle.printing.specs.declared.place.Place.{Place}
-use Rattle.printing.specs.declared.place.Place.the-variants.{At, Past}
-use Rattle.printing.specs.Texts.{text-of}
-use Rattle.printing.specs.Writing.{Wrote, place-behind, laid}
-use Rattle.printing.specs.WritingLaws.{past-long, at-short, at-count, laid-in-front}
+use Rattle.text_lines.specs.declared.place.Place.{Place}
+use Rattle.text_lines.specs.declared.place.Place.the-variants.{At, Past}
+use Rattle.text_lines.specs.Texts.{text-of}
+use Rattle.text_lines.specs.Writing.{Wrote, place-behind, laid}
+use Rattle.text_lines.specs.WritingLaws.{past-long, at-short, at-count, laid-in-front}
 use Rattle.printing.specs.Says.{Made, Text-says}
 
 module _ (a : Catalogued) (es out : List ℕ) where

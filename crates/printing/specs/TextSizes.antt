@@ -15,7 +15,7 @@ use Rattle.records.specs.declared.refusal.Refusal.{Refusal}
 use Rattle.records.specs.Refusals.{number-of, number-small}
 use Rattle.records.specs.declared.catalogued.Catalogued.{Catalogued}
 use Rattle.records.specs.declared.catalogued.Catalogued.the-variants.{Entries, Refused}
-use Rattle.printing.specs.Texts.{
+use Rattle.text_lines.specs.Texts.{
   decimal,
   drawing-word,
   record-text,
@@ -27,8 +27,8 @@ use Rattle.printing.specs.Texts.{
   entries-shown,
   text-of,
 }
-use Rattle.printing.specs.TextLaws.{entries-count}
-use Rattle.printing.specs.Numbers.{decimal-length}
+use Rattle.text_lines.specs.TextLaws.{entries-count}
+use Rattle.text_lines.specs.Numbers.{decimal-length}
 
 -- BYTES, and parts of them
 abbrev pub Bytes-in : List ℕ → Type 0

@@ -1,20 +1,20 @@
 // The text of what a catalogue call answers: a line for each entry and the number of patterns, or the refusal.
 use crate::answer::Printed;
-use crate::line::least;
-use crate::line::put_entry;
-use crate::place::Place;
-use crate::place::put_byte;
-use crate::place::put_number;
-use crate::place::put_word;
 use records::catalogued::Catalogued;
 use records::entry::Entry;
 use records::refusal::Refusal;
 use records::refusal::number;
+use text_lines::line::least;
+use text_lines::line::put_line;
+use text_lines::place::Place;
+use text_lines::place::put_byte;
+use text_lines::place::put_number;
+use text_lines::place::put_word;
 ghost use Prim.Native.Nat.{_*_, _≤_};
 ghost use lib.ListN.{length};
 ghost use Rattle.records.specs.Refusals.{number-of};
-ghost use Rattle.printing.specs.Texts.{lines, first-entries, entries-shown, catalogue-text, drawing-text, refusal-text, text-of};
-ghost use Rattle.printing.specs.Writing.{Wrote};
+ghost use Rattle.text_lines.specs.Texts.{lines, first-entries, entries-shown, catalogue-text, drawing-text, refusal-text, text-of};
+ghost use Rattle.text_lines.specs.Writing.{Wrote};
 ghost use Rattle.printing.specs.Says.{Text-says};
 
 // The lines of the first n entries.
@@ -26,7 +26,7 @@ fn put_lines(text: &mut [u8], place: Place, entries: &[u8], n: usize) -> Place
     for k in 0..n {
         let at = Entry::BYTES * k;
         let end = at + Entry::BYTES;
-        next = put_entry(text, next, &entries[at..end]);
+        next = put_line(text, next, &entries[at..end]);
     }
     next
 }

@@ -1,13 +1,13 @@
 // Reading a code record by record: whether the next record is a permitted step, and what is known after it.
+use code_records::record::Record;
+use code_records::record::put_record;
 use records::code::Code;
 use records::drawing::Drawing;
-use tables::record::Record;
-use tables::record::put_record;
 ghost use mathlib.Core.Path.{_≡_};
 ghost use mathlib.Core.Bool.{true};
 ghost use Prim.Native.Nat.{_≤_, _<_};
 ghost use Rattle.codes.specs.Code.{step-good, kinds-match};
-ghost use Rattle.tables.specs.Records.{as-rec};
+ghost use Rattle.code_records.specs.Records.{as-rec};
 ghost use Rattle.readings.specs.Readings.{as-reading, Not-begun, Begun, Sound, Place-says, Step-from, Step-says};
 ghost use Rattle.readings.specs.Readings.{Record-held, Can-take, Steps};
 

@@ -1,7 +1,7 @@
 // The labels of a survey's drawings as bits, where the survey has few labels: that of a label is the bit of its number.
 use crate::labels::TABLES;
 use crate::labels::put_table;
-use crate::ranks::LABELS;
+use label_ranks::ranks::LABELS;
 use records::drawing::Drawing;
 use records::survey::Survey;
 use tables::table::CELLS;

@@ -1,8 +1,6 @@
 -- Definitions.
-pub mod Records
 pub mod Tables
 -- Laws over them.
-pub mod RecordLaws
 pub mod TableLaws
 pub mod CodeRows
 pub mod CodeCables

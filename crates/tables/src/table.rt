@@ -1,6 +1,6 @@
 // The labels of a drawing's cables. One number stands for a cable seen from one end, 1 + 256 * cable kind + kind of the
 // other end, so that the order of labels is that of records; 0 is no cable.
-use crate::record::Record;
+use code_records::record::Record;
 use records::cable::Cable;
 use records::code::Code;
 use records::drawing::Drawing;

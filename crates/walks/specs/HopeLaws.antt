@@ -38,7 +38,7 @@ use Rattle.codes.specs.Greedy.{Greedy}
 use Rattle.codes.specs.Overlooked.{relabelled, Overlooks, by-edge, by-chord}
 use Rattle.codes.specs.OwnNumbering.{Well-grown}
 use Rattle.codes.specs.Hopeless.{begins-with, last-cable, own-node, first-hopeless, reversed-hopeless, sibling-hopeless}
-use Rattle.tables.specs.RecordLaws.{record-read}
+use Rattle.code_records.specs.RecordLaws.{record-read}
 use Rattle.walks.specs.Hopes.{record-of, Can-look, Overlooked-by, Overlooked-at, Hopeless-if}
 use Rattle.walks.specs.Hopes.{with-labels}
 

@@ -4,7 +4,7 @@ use Prim.Native.Nat.{_≤_}
 use lib.ListN.{length}
 use lib.Seq.{length-take-le}
 use borrow.Author.Needs.{needs}
-use Rattle.catalogue.specs.ReadingInputLaws.{bytes-within}
+use Rattle.survey_input.specs.ReadingInputLaws.{bytes-within}
 use Rattle.catalogue.proofs.main.Statement.{statement}
 use Rattle.catalogue.proofs.main.Tie as tie
 

@@ -11,18 +11,18 @@ unused-zero-requires c κs = c .before .pre .counted
 returns : tie.Need-returns
 returns c = sym (rest-unused _ (sym (c .before .unused-zero .ensures) ∙ not-true _ (c .if1 .taken)))
 
-connected-requires : tie.Need-connected-requires
-connected-requires c κs = c .before .before .before .pre
+all-reached-requires : tie.Need-all-reached-requires
+all-reached-requires c κs = c .before .before .before .pre
 
 returns-2 : tie.Need-returns-2
 returns-2 c =
     let e = sym (c .before .before .before .unused-zero .ensures) ∙ not-false _ (c .before .before .if1 .left) in
-    sym (rest-fine _ e (sym (c .before .connected .ensures) ∙ c .if2 .taken))
+    sym (rest-fine _ e (sym (c .before .all-reached .ensures) ∙ c .if2 .taken))
 
 returns-3 : tie.Need-returns-3
 returns-3 c =
     let e = sym (c .before .before .before .unused-zero .ensures) ∙ not-false _ (c .before .before .if1 .left) in
-    sym (rest-apart _ e (sym (c .before .connected .ensures) ∙ c .if2 .left))
+    sym (rest-apart _ e (sym (c .before .all-reached .ensures) ∙ c .if2 .left))
 
 pub check-rest-spec : {M : Type 1} → statement M
-check-rest-spec = tie.close (tie.spec unused-zero-requires returns connected-requires returns-2 returns-3)
+check-rest-spec = tie.close (tie.spec unused-zero-requires returns all-reached-requires returns-2 returns-3)

@@ -8,7 +8,7 @@ use borrow.Author.Needs.{needs}
 use Rattle.codes.specs.CodeBytes.{accepted-code}
 use Rattle.records.specs.declared.refusal.Checked.the-variants.{Accepted}
 use Rattle.readings.specs.Readings.{code-checked}
-use Rattle.coding.specs.CheckLaws.{checked-accepted}
+use Rattle.code_checks.specs.CheckLaws.{checked-accepted}
 use Rattle.tables.specs.CodeRows.{code-ten}
 use Rattle.tables.specs.TableOfCode.{Byte-code, code-pattern}
 use Rattle.least_test.specs.LeastStarts.{some-not-least, none-least}

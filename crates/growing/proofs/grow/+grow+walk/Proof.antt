@@ -7,8 +7,8 @@ use borrow.Author.Needs.{needs}
 use lib.ListN.{length}
 use Rattle.codes.specs.Code.{recs-in}
 use Rattle.codes.specs.CodeBytes.{recs-in-length}
-use Rattle.candidates.specs.HeldCode.{Code-kept}
-use Rattle.candidates.specs.HeldCodeLaws.{code-same, code-grown}
+use Rattle.extending.specs.HeldCode.{Code-kept}
+use Rattle.extending.specs.HeldCodeLaws.{code-same, code-grown}
 use Rattle.taking.specs.Taking.{Entry-goes-on}
 use Rattle.taking.specs.TakingLaws.{taken-goes-on}
 use Rattle.walks.specs.EmbeddingLists.{Lists-kept}

@@ -14,8 +14,8 @@ use borrow.Fn.PlainCycle.{Measures, is, falls, and}
 use Rattle.graphs.specs.Drawing.{drawing-in}
 use Rattle.codes.specs.Code.{Rec, recs-in}
 use Rattle.codes.specs.BranchState.{State, label-of}
-use Rattle.tables.specs.declared.«record».Order.the-variants.{Before, Equal}
-use Rattle.tables.specs.Records.{as-rec}
+use Rattle.code_records.specs.declared.«record».Order.the-variants.{Before, Equal}
+use Rattle.code_records.specs.Records.{as-rec}
 use Rattle.branches.specs.declared.extension.Extension.the-variants.{Chord, Edge}
 use Rattle.branches.specs.Branches.{in-place, Same-arrays}
 use Rattle.branches.specs.InPlaceLaws.{bounds-places, all-same, same-place, same-placed, given-place, taken-place}
@@ -53,8 +53,8 @@ use Rattle.least_below.specs.SearchCalls.{
   anew-left,
   anew-met,
 }
-use Rattle.tables.proofs.record.Record.at.Reads as at
-use Rattle.tables.proofs.record.put_record.Reads as put-record
+use Rattle.code_records.proofs.record.Record.at.Reads as at
+use Rattle.code_records.proofs.record.put_record.Reads as put-record
 use Rattle.branches.proofs.branch.give_number.Reads as give-number
 use Rattle.branches.proofs.branch.take_number.Reads as take-number
 use Rattle.branches.proofs.extension.least_extension.Reads as least-extension

@@ -16,8 +16,8 @@ use borrow.Fn.PlainCycle.{Measures, is, falls, and}
 use Rattle.laws.specs.Decides.{decides-true, decides-false}
 use Rattle.laws.specs.Rows.{row}
 use Rattle.codes.specs.Code.{rec-in}
-use Rattle.tables.specs.declared.«record».Order.{Order}
-use Rattle.tables.specs.declared.«record».Order.the-variants.{Before, Equal, After}
+use Rattle.code_records.specs.declared.«record».Order.{Order}
+use Rattle.code_records.specs.declared.«record».Order.the-variants.{Before, Equal, After}
 use Rattle.branches.specs.Branches.{in-place, device-placed, Same-arrays}
 use Rattle.branches.specs.InPlaceLaws.{all-same, joined, given-place, taken-place}
 use Rattle.least_seen.specs.Betters.{Better-below}

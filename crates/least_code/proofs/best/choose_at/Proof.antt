@@ -4,8 +4,8 @@ use mathlib.Core.Logic.{⊎-elim}
 use native.Mathlib.Omega.{arith}
 use borrow.Author.Needs.{needs}
 use Rattle.codes.specs.Code.{recs-in}
-use Rattle.tables.specs.declared.«record».Order.{Order}
-use Rattle.tables.specs.Records.{as-rec}
+use Rattle.code_records.specs.declared.«record».Order.{Order}
+use Rattle.code_records.specs.Records.{as-rec}
 use Rattle.least_below.specs.Searches.{chosen-rows}
 use Rattle.least_below.specs.SearchBest.{chosen-kept}
 use Rattle.least_code.proofs.best.choose_at.Statement.{statement}

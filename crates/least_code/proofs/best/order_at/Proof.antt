@@ -2,7 +2,7 @@
 use mathlib.Core.Path.{sym, ap, _∙_, subst}
 use borrow.Author.Needs.{needs}
 use Rattle.codes.specs.Code.{recs-in}
-use Rattle.tables.specs.Records.{as-rec, order-of}
+use Rattle.code_records.specs.Records.{as-rec, order-of}
 use Rattle.least_below.specs.Searches.{Against}
 use Rattle.least_below.specs.SearchBest.{against-nothing, against-record}
 use Rattle.least_code.proofs.best.order_at.Statement.{statement}

@@ -6,8 +6,8 @@ use native.Mathlib.Omega.{arith}
 use borrow.Author.Needs.{needs}
 use Rattle.graphs.specs.Drawing.{drawing-in}
 use Rattle.codes.specs.FirstRecord.{first-record}
-use Rattle.tables.specs.declared.«record».Order.the-variants.{After}
-use Rattle.tables.specs.Records.{as-rec}
+use Rattle.code_records.specs.declared.«record».Order.the-variants.{After}
+use Rattle.code_records.specs.Records.{as-rec}
 use Rattle.least_code.specs.SearchStarts.{start-low, makes-first, first-is}
 use Rattle.least_code.specs.SearchStartCalls.{start-count, start-left, start-call, start-return}
 use Rattle.least_code.proofs.search.start.Statement.{statement}

@@ -4,7 +4,7 @@ use mathlib.Core.Logic.{inl, inr, ⊎-elim}
 use borrow.Author.Needs.{needs}
 use Rattle.laws.specs.Decides.{Decides, decides-true}
 use Rattle.codes.specs.Code.{Rec}
-use Rattle.tables.specs.Records.{as-rec}
+use Rattle.code_records.specs.Records.{as-rec}
 use Rattle.least_grown.specs.ClearlyLeast.{Goes-alike}
 use Rattle.least_grown.proofs.clear.alike_seen.Statement.{statement}
 use Rattle.least_grown.proofs.clear.alike_seen.Tie as tie

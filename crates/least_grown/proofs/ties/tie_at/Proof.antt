@@ -6,7 +6,7 @@ use borrow.Author.Needs.{needs}
 use Rattle.laws.specs.Decides.{decides-false}
 use Rattle.laws.specs.Rows.{row}
 use Rattle.codes.specs.Code.{Rec, rec-in}
-use Rattle.tables.specs.Records.{as-rec}
+use Rattle.code_records.specs.Records.{as-rec}
 use Rattle.least_test.specs.LeastStarts.{seen-along, seen-low}
 use Rattle.least_grown.specs.OwnTieLaws.{tie-told}
 use Rattle.least_grown.proofs.ties.tie_at.Statement.{statement}

@@ -3,9 +3,9 @@ use mathlib.Core.Path.{_≡_, subst}
 use Prim.Native.Nat.{ℕ}
 use native.Mathlib.Omega.{arith}
 use borrow.Author.Needs.{needs}
-use Rattle.tables.specs.declared.«record».Order.{Order}
-use Rattle.tables.specs.declared.«record».Order.the-variants.{Before, Equal, After}
-use Rattle.tables.specs.Records.{as-rec}
+use Rattle.code_records.specs.declared.«record».Order.{Order}
+use Rattle.code_records.specs.declared.«record».Order.the-variants.{Before, Equal, After}
+use Rattle.code_records.specs.Records.{as-rec}
 use Rattle.least_seen.specs.Accepting.{Chord-told}
 use Rattle.least_seen.specs.Meetings.{Row-told}
 use Rattle.least_seen.specs.MeetingLaws.{chord-met, row-places, row-counts, row-back-told-place, row-back-told}

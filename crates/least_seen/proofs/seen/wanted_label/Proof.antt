@@ -1,6 +1,6 @@
 -- `better::wanted_label` meets its contract: two of the record's bytes. Assumes nothing.
 use borrow.Author.Needs.{needs}
-use Rattle.tables.specs.RecordLaws.{record-read}
+use Rattle.code_records.specs.RecordLaws.{record-read}
 use Rattle.least_seen.proofs.seen.wanted_label.Statement.{statement}
 use Rattle.least_seen.proofs.seen.wanted_label.Tie as tie
 

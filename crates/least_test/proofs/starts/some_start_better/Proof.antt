@@ -10,7 +10,7 @@ use Rattle.laws.specs.Rows.{row}
 use Rattle.codes.specs.Code.{Rec, rec-in, decoded}
 use Rattle.codes.specs.Code.{code-records}
 use Rattle.codes.specs.CodeBytes.{accepted-code}
-use Rattle.tables.specs.Records.{as-rec}
+use Rattle.code_records.specs.Records.{as-rec}
 use Rattle.least_seen.specs.Betters.{Seen-cable, reversed-record, Begins-better, Tried}
 use Rattle.least_test.specs.StartNumbers.{Numbers-labels}
 use Rattle.least_test.specs.LeastStarts.{seen-along, seen-against, own-start, tried-start, tried-next, tried-all}

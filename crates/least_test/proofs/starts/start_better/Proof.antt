@@ -5,7 +5,7 @@ use borrow.Author.Needs.{needs}
 use Rattle.laws.specs.Decides.{decides-true, decides-false}
 use Rattle.laws.specs.Rows.{row}
 use Rattle.codes.specs.Code.{rec-in}
-use Rattle.tables.specs.Records.{as-rec}
+use Rattle.code_records.specs.Records.{as-rec}
 use Rattle.least_test.specs.LeastStarts.{
   begins,
   seen-low,

@@ -1,9 +1,9 @@
 -- `text::put_catalogue` meets its contract: the lines, the number of entries and the word. Assumes nothing.
 use mathlib.Core.Path.{sym, ap, _∙_}
 use borrow.Author.Needs.{needs}
-use Rattle.printing.specs.Texts.{decimal, catalogue-text}
-use Rattle.printing.specs.TextLaws.{entries-count}
-use Rattle.printing.specs.WritingLaws.{wrote-then, wrote-as}
+use Rattle.text_lines.specs.Texts.{decimal, catalogue-text}
+use Rattle.text_lines.specs.TextLaws.{entries-count}
+use Rattle.text_lines.specs.WritingLaws.{wrote-then, wrote-as}
 use Rattle.printing.proofs.text.put_catalogue.Statement.{statement}
 use Rattle.printing.proofs.text.put_catalogue.Tie as tie
 

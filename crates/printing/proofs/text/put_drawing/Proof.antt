@@ -1,8 +1,8 @@
 -- `text::put_drawing` meets its contract, case by case. Assumes nothing.
 use native.Mathlib.Omega.{arith}
 use borrow.Author.Needs.{needs}
-use Rattle.printing.specs.TextLaws.{drawing-none-below, drawing-none-above, drawing-told}
-use Rattle.printing.specs.WritingLaws.{wrote-none, wrote-then, wrote-as}
+use Rattle.text_lines.specs.TextLaws.{drawing-none-below, drawing-none-above, drawing-told}
+use Rattle.text_lines.specs.WritingLaws.{wrote-none, wrote-then, wrote-as}
 use Rattle.printing.proofs.text.put_drawing.Statement.{statement}
 use Rattle.printing.proofs.text.put_drawing.Tie as tie
 

@@ -6,10 +6,10 @@ use lib.ListN.{length}
 use borrow.Author.Needs.{needs}
 use Rattle.laws.specs.Lists.{concat}
 use Rattle.laws.specs.Rows.{rows}
-use Rattle.printing.specs.Texts.{lines, first-entries}
-use Rattle.printing.specs.TextLaws.{part-row, lines-more}
-use Rattle.printing.specs.Writing.{Wrote}
-use Rattle.printing.specs.WritingLaws.{wrote-none, wrote-then, wrote-as}
+use Rattle.text_lines.specs.Texts.{lines, first-entries}
+use Rattle.text_lines.specs.TextLaws.{part-row, lines-more}
+use Rattle.text_lines.specs.Writing.{Wrote}
+use Rattle.text_lines.specs.WritingLaws.{wrote-none, wrote-then, wrote-as}
 use Rattle.printing.proofs.text.put_lines.Statement.{statement}
 use Rattle.printing.proofs.text.put_lines.Tie as tie
 
@@ -30,17 +30,17 @@ mul-at c = search needs
 add-end : tie.Need-add-end Inv-loop μ-loop
 add-end c = search needs
 
-sub-put-entry : tie.Need-sub-put-entry Inv-loop μ-loop
-sub-put-entry c = search needs
+sub-put-line : tie.Need-sub-put-line Inv-loop μ-loop
+sub-put-line c = search needs
 
-part-put-entry-start : tie.Need-part-put-entry-start Inv-loop μ-loop
-part-put-entry-start c = search needs
+part-put-line-start : tie.Need-part-put-line-start Inv-loop μ-loop
+part-put-line-start c = search needs
 
-part-put-entry-end : tie.Need-part-put-entry-end Inv-loop μ-loop
-part-put-entry-end c = search needs
+part-put-line-end : tie.Need-part-put-line-end Inv-loop μ-loop
+part-put-line-end c = search needs
 
-put-entry-requires : tie.Need-put-entry-requires Inv-loop μ-loop
-put-entry-requires c κs = search needs
+put-line-requires : tie.Need-put-line-requires Inv-loop μ-loop
+put-line-requires c κs = search needs
 
 add-k : tie.Need-add-k Inv-loop μ-loop
 add-k c = search needs
@@ -51,7 +51,7 @@ loop-less c = search needs
 loop-again : tie.Need-loop-again Inv-loop μ-loop
 loop-again c =
     let l = c .before .before .before .before .before .before .loop in
-    let e = c .before .before .put-entry in
+    let e = c .before .before .put-line in
     let entries = c .before .before .before .before .before .before .before .before .before .args .entries .now in (
       search needs,
       e .kept .0 ∙ l .inv .1,
@@ -77,10 +77,10 @@ put-lines-spec =
     loop-holds
     mul-at
     add-end
-    sub-put-entry
-    part-put-entry-start
-    part-put-entry-end
-    put-entry-requires
+    sub-put-line
+    part-put-line-start
+    part-put-line-end
+    put-line-requires
     add-k
     loop-less
     loop-again

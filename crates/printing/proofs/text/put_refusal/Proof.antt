@@ -1,7 +1,7 @@
 -- `text::put_refusal` meets its contract: the word, the number, the drawing at fault and the line's end. Assumes nothing.
 use borrow.Author.Needs.{needs}
-use Rattle.printing.specs.Texts.{refusal-text}
-use Rattle.printing.specs.WritingLaws.{wrote-then}
+use Rattle.text_lines.specs.Texts.{refusal-text}
+use Rattle.text_lines.specs.WritingLaws.{wrote-then}
 use Rattle.printing.proofs.text.put_refusal.Statement.{statement}
 use Rattle.printing.proofs.text.put_refusal.Tie as tie
 

@@ -4,7 +4,7 @@ use mathlib.Core.List.{List, []}
 use Prim.Native.Nat.{ℕ, _<_}
 use native.Mathlib.Omega.{arith}
 use borrow.Author.Needs.{needs}
-use Rattle.candidates.specs.HeldCodeLaws.{no-records, nothing-held}
+use Rattle.extending.specs.HeldCodeLaws.{no-records, nothing-held}
 use Rattle.survey_patterns.specs.SurveyMinedLaws.{mine-chooses, mine-walks, kind-after}
 use Rattle.survey_patterns.proofs.mine.mine_kind.Statement.{statement}
 use Rattle.survey_patterns.proofs.mine.mine_kind.Tie as tie

@@ -1,6 +1,6 @@
 -- `reading::Reading::backed` meets its contract: a record more, and its j. Assumes nothing.
 use borrow.Author.Needs.{needs}
-use Rattle.tables.specs.Records.{as-rec}
+use Rattle.code_records.specs.Records.{as-rec}
 use Rattle.readings.specs.StepLaws.{steps-back}
 use Rattle.readings.proofs.reading.Reading.backed.Statement.{statement}
 use Rattle.readings.proofs.reading.Reading.backed.Tie as tie

@@ -3,7 +3,7 @@ use mathlib.Core.Logic.{_⊎_, inl, inr, ⊎-elim}
 use native.Mathlib.Omega.{arith}
 use borrow.Author.Tests.{leb-true, leb-false}
 use borrow.Author.Needs.{needs}
-use Rattle.tables.specs.Records.{as-rec}
+use Rattle.code_records.specs.Records.{as-rec}
 use Rattle.readings.specs.Readings.{Place-says, Step-says}
 use Rattle.readings.specs.ReadingLaws.{path-most, end-refused, level-refused, parent-refused, back-refused}
 use Rattle.readings.specs.ReadingLaws.{apart-refused, backward-step-from}

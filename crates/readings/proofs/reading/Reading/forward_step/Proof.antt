@@ -4,7 +4,7 @@ use mathlib.Core.Logic.{⊎-elim}
 use borrow.Author.Tests.{leb-true, leb-false}
 use borrow.Author.Needs.{needs}
 use lib.ListN.{length}
-use Rattle.tables.specs.Records.{as-rec}
+use Rattle.code_records.specs.Records.{as-rec}
 use Rattle.readings.specs.Readings.{Step-says}
 use Rattle.readings.specs.ReadingLaws.{path-most, next-refused, ten-refused, forward-told}
 use Rattle.readings.proofs.reading.Reading.forward_step.Statement.{statement}

@@ -3,7 +3,7 @@ use mathlib.Core.Path.{_≡_}
 use native.Mathlib.Omega.{arith}
 use borrow.Author.Needs.{needs}
 use lib.ListN.{length}
-use Rattle.tables.specs.Records.{as-rec}
+use Rattle.code_records.specs.Records.{as-rec}
 use Rattle.readings.specs.StepLaws.{In-range, in-range, steps-forward}
 use Rattle.readings.proofs.reading.Reading.forwarded.Statement.{statement}
 use Rattle.readings.proofs.reading.Reading.forwarded.Tie as tie

@@ -4,7 +4,7 @@ use mathlib.Core.Path.{_≡_, sym}
 use native.Mathlib.Omega.{arith}
 use borrow.Author.Needs.{needs}
 use lib.ListN.{length}
-use Rattle.tables.specs.Records.{as-rec}
+use Rattle.code_records.specs.Records.{as-rec}
 use Rattle.readings.specs.Readings.{Begun}
 use Rattle.readings.specs.ReadingLaws.{sound-begun}
 use Rattle.readings.specs.StepLaws.{kinds-first, first-low, first-differs, forward-matches, backward-matches}

@@ -2,7 +2,7 @@
 use mathlib.Core.Logic.{⊎-elim}
 use borrow.Author.Tests.{eqb-true, eqb-false}
 use borrow.Author.Needs.{needs}
-use Rattle.tables.specs.Records.{as-rec}
+use Rattle.code_records.specs.Records.{as-rec}
 use Rattle.readings.specs.Readings.{Step-says}
 use Rattle.readings.specs.ReadingLaws.{sound-begun, first-permitted, first-refused}
 use Rattle.readings.proofs.reading.Reading.step.Statement.{statement}

@@ -1,0 +1,5 @@
+-- Definitions.
+pub mod Answers
+-- Laws over them.
+pub mod AnswerLaws
+pub mod CheckLaws

@@ -1,0 +1,4 @@
+-- Definitions.
+pub mod Records
+-- Laws over them.
+pub mod RecordLaws

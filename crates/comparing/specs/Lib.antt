@@ -1,0 +1,4 @@
+-- Definitions.
+pub mod Comparing
+-- Laws over them.
+pub mod ComparingLaws

@@ -1,0 +1,4 @@
+-- Definitions.
+pub mod Reached
+-- Laws over them.
+pub mod ReachedLaws

@@ -1,0 +1,4 @@
+-- Definitions.
+pub mod ReadingInput
+-- Laws over them.
+pub mod ReadingInputLaws

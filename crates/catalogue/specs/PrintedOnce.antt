@@ -1,6 +1,6 @@
 -- What is printed follows from what is read: each survey has just one text, and an input of 2,376 bytes is refused, whatever would
 -- follow it. Assumes nothing.
-use mathlib.Core.Path.{_≡_, refl, sym, ap, _∙_}
+use mathlib.Core.Path.{_≡_, sym, ap, _∙_}
 use mathlib.Core.List.{List}
 use Prim.Native.Nat.{ℕ, zero, suc, _*_}
 use lib.Dec.{ltb}

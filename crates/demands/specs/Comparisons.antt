@@ -5,7 +5,7 @@ use mathlib.Core.Bool.{Bool, true, false, cond}
 use mathlib.Core.List.{List}
 use Prim.Native.Nat.{ℕ}
 use native.Mathlib.Omega.{arith}
-use Rattle.laws.specs.Tests.{true-and-false, false-unless}
+use Rattle.laws.specs.Tests.{false-unless}
 use Rattle.codes.specs.Code.{Rec, code-records, code-refusal, rec-bytes, before, kinds-before}
 use Rattle.codes.specs.CodeOrder.{kinds-order, before-strict}
 use Rattle.codes.specs.CodeBytes.{accepted-code}

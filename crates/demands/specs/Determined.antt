@@ -2,7 +2,7 @@
 -- empty part of a refused survey lies is the reader's choice; what every choice has in common is that it has no byte. Rests on what each
 -- call says, on one least code and one catalogue, and on a refusal's number telling its case. Assumes nothing.
 use mathlib.Core.Path.{_≡_, refl, sym, ap, ap₂, subst, _∙_}
-use mathlib.Core.Bool.{Bool, true, false, cond}
+use mathlib.Core.Bool.{Bool, true, false}
 use mathlib.Core.List.{List, []}
 use mathlib.Core.Option.{Option}
 use mathlib.Core.Logic.{_⊎_, inl, inr}

@@ -1,10 +1,9 @@
 -- The checks, the reader, the text and the C calls are turned back as the table says. Rests on what each call says. Assumes nothing.
-use mathlib.Core.Path.{_≡_, refl, sym, ap, subst, _∙_}
-use mathlib.Core.Bool.{Bool, true, false}
+use mathlib.Core.Path.{_≡_, refl, ap, subst, _∙_}
+use mathlib.Core.Bool.{Bool}
 use mathlib.Core.List.{List, []}
 use Prim.Native.Nat.{ℕ, _*_, _/_, _<_, _≤_}
 use native.Mathlib.Omega.{arith}
-use lib.Dec.{ltb}
 use lib.ListN.{length}
 use borrow.Author.Tests.{lt-ltb, le-ltb}
 use denote.Ref.{RefT}
@@ -21,7 +20,7 @@ use Rattle.records.specs.Surveys.{survey-checked, Survey-answer}
 use Rattle.readings.specs.Readings.{code-checked}
 use Rattle.code_checks.specs.Answers.{written-numbers, verdict-numbers, compared-numbers}
 use Rattle.code_checks.specs.CheckLaws.{code-checked-number}
-use Rattle.matching.specs.MatchAnswers.{match-refusal, match-count, same-refusal, same-value}
+use Rattle.matching.specs.MatchAnswers.{match-count, same-value}
 use Rattle.reader.specs.declared.reader.Opened.{Opened}
 use Rattle.reader.specs.Readers.{Opens}
 use Rattle.reader.specs.ReaderLaws.{refused-fetch, fetch-past, fetched-drawing}

@@ -5,7 +5,7 @@ use mathlib.Core.List.{List, [], map}
 use Prim.Native.Nat.{ℕ, _+_, _*_, _≤_}
 use native.Mathlib.Nat.{mul-le-mul-left}
 use native.Mathlib.Omega.{arith}
-use lib.ListN.{length, take}
+use lib.ListN.{take}
 use lib.Seq.{take-take}
 use Rattle.laws.specs.Rows.{rows, rows-sized, concat-rows, concat-injective}
 use Rattle.codes.specs.Code.{Rec, fresh, rec-in, recs-in, read-rows}

@@ -7,7 +7,6 @@ use tables::table::cable_kind;
 use tables::table::other_kind;
 ghost use mathlib.Core.Path.{_≡_};
 ghost use Prim.Native.Nat.{_<_, _≤_};
-ghost use lib.ListN.{length};
 ghost use Rattle.code_records.specs.Records.{as-rec};
 ghost use Rattle.extending.specs.HeldCode.{labelled, Can-read-off, Read-off, Can-append, Appended};
 

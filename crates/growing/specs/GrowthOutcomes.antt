@@ -6,11 +6,11 @@ use Prim.Native.Nat.{ℕ, suc, _+_, _*_, _/_, _^_, _≤_, _<_}
 use lib.ListN.{length, drop}
 use Rattle.graphs.specs.Drawing.{Drawing, is-pattern}
 use Rattle.graphs.specs.Survey.{containing, support}
-use Rattle.codes.specs.Code.{Rec, fresh, rows-refusal, recs-in, decoded, kinds-before, Least}
+use Rattle.codes.specs.Code.{Rec, fresh, rows-refusal, decoded, kinds-before}
 use Rattle.codes.specs.CodeOrder.{kinds-order}
 use Rattle.codes.specs.Greedy.{Greedy}
 use Rattle.codes.specs.OwnNumbering.{Well-grown}
-use Rattle.growth.specs.Catalogue.{entry, entry-bytes, all-bytes}
+use Rattle.growth.specs.Catalogue.{all-bytes}
 use Rattle.growth.specs.Catalogues.{entry-for}
 use Rattle.growth.specs.Growth.{Listed-by}
 use Rattle.growth.specs.Frequent.{Frequent}
@@ -21,11 +21,9 @@ use Rattle.growth.specs.ListedBy.{Chosen-cells, place-in, records-at}
 use Rattle.growth.specs.Output.{Done, Ahead}
 use Rattle.growth.specs.Walking.{Gives, Ahead-of}
 use Rattle.growth.specs.Sizes.{places-size, candidates-size}
-use Rattle.least_seen.specs.Accepting.{Accepted-front}
 use Rattle.growing.specs.declared.grow.Growth.{Growth}
 use Rattle.growing.specs.declared.grow.Growth.the-variants.{To, Full}
 use Rattle.growing.specs.declared.grow.Settings.{Settings}
-use Rattle.laws.specs.PutRecords.{put-record}
 use Rattle.walks.specs.LabelMarks.{drawings-of}
 use Rattle.walks.specs.Prepared.{Prepared}
 use Rattle.walks.specs.Counts.{Blank}

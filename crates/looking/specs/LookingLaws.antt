@@ -16,7 +16,7 @@ use Rattle.growth.specs.Places.{record-at}
 use Rattle.walks.specs.Hopes.{Can-look, Hopeless-if}
 use Rattle.walks.specs.HopeLaws.{grown-well}
 use Rattle.extending.specs.HeldCode.{basis, Can-read-off, Read-off, Can-append, Appended}
-use Rattle.looking.specs.Looking.{Can-lengthen, Hopeless, Grown-by, Lengthened, Can-look-on, Looked-on, Passed-over}
+use Rattle.looking.specs.Looking.{Can-lengthen, Hopeless, Lengthened, Can-look-on, Looked-on, Passed-over}
 
 -- an accepted code of some records has two devices
 two-devices : (γ : List Rec) (e : Rec) → rows-refusal fresh (snoc γ e) ≡ 0 → 2 ≤ length (read-rows fresh (snoc γ e) .kinds)

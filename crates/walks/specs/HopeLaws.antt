@@ -11,7 +11,7 @@ use borrow.Author.Tests.{ltb-true, lt-ltb, le-ltb, eq-eqb, ne-eqb}
 use Rattle.laws.specs.Decides.{Decides}
 use Rattle.laws.specs.Tests.{true-and-false}
 use Rattle.laws.specs.Lists.{snoc, snoc-length, getD-default}
-use Rattle.laws.specs.Rows.{row, rows, rows-length, rows-at}
+use Rattle.laws.specs.Rows.{rows, rows-at}
 use Rattle.graphs.specs.Graph.{Pattern}
 use Rattle.graphs.specs.Patterns.{pattern-from-test}
 use Rattle.codes.specs.Code.{

@@ -121,10 +121,8 @@ fn surveys_that_are_refused() {
     );
 }
 
-/// The example that ships: the stored text is that of the other implementation's catalogue.
-#[test]
-fn the_catalogue_of_the_cranes() {
-    let survey = include_bytes!("../../../examples/cranes.survey");
+/// The text of the other implementation's usual catalogue.
+fn usual_text(survey: &[u8]) -> String {
     let drawings = catalogue::read(survey, 2, 4).ok().expect("accepted");
     let entries = Codes::default().catalogue(&drawings, 2, 4);
     let mut text = String::new();
@@ -136,5 +134,20 @@ fn the_catalogue_of_the_cranes() {
         text.push('\n');
     }
     text += &format!("{} patterns\n", entries.len());
+    text
+}
+
+/// The example that ships.
+#[test]
+fn the_catalogue_of_the_cranes() {
+    let text = usual_text(include_bytes!("../../../examples/cranes.survey"));
     assert_eq!(text, include_str!("../../../examples/cranes.catalogue"));
+}
+
+/// As many patterns as the program has room for.
+#[test]
+fn the_most_patterns() {
+    let text = usual_text(include_bytes!("../../program/cases/most_patterns.in"));
+    assert!(text == include_str!("../../program/cases/most_patterns.out"));
+    assert!(text.ends_with("\n1560 patterns\n"));
 }

@@ -3,7 +3,6 @@ use mathlib.Core.Path.{_≡_, sym, _∙_}
 use Prim.Native.Nat.{_<_, _≤_}
 use native.Mathlib.Omega.{arith}
 use borrow.Author.Needs.{needs}
-use borrow.Author.Tests.{ltb-true}
 use Rattle.walks.specs.HopeLaws.{lone-look, told-hopeless, before-hopeless, against-hopeless, edge-hopeless, chord-hopeless}
 use Rattle.extending.proofs.hopeful.hopeless.Statement.{statement}
 use Rattle.extending.proofs.hopeful.hopeless.Tie as tie

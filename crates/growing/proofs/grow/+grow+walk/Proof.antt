@@ -1,10 +1,9 @@
 -- `grow::grow` and `grow::walk` meet their contracts. The walk's invariant: what goes on by the candidates below k is listed.
 -- Assumes nothing.
-use mathlib.Core.Path.{_≡_, sym, _∙_}
+use mathlib.Core.Path.{_≡_, _∙_}
 use Prim.Native.Nat.{ℕ, _+_, _*_, _-_, _<_}
 use native.Mathlib.Omega.{arith}
 use borrow.Author.Needs.{needs}
-use lib.ListN.{length}
 use Rattle.codes.specs.Code.{recs-in}
 use Rattle.codes.specs.CodeBytes.{recs-in-length}
 use Rattle.extending.specs.HeldCode.{Code-kept}

@@ -1,8 +1,8 @@
 -- `kinds::note_kinds` meets its contract. The invariant: the kinds of the first u places are marked. Assumes nothing.
-use mathlib.Core.Path.{_≡_, sym, _∙_, subst}
-use Prim.Native.Nat.{ℕ, _+_, _-_, _<_, _≤_}
+use mathlib.Core.Path.{_≡_, _∙_}
+use Prim.Native.Nat.{_+_, _-_, _<_, _≤_}
 use native.Mathlib.Omega.{arith}
-use lib.ListN.{length, getD}
+use lib.ListN.{getD}
 use borrow.Author.Needs.{needs}
 use Rattle.graphs.specs.Patterns.{accepted-parts}
 use Rattle.walks.specs.Kinds.{Noted}

@@ -1,11 +1,9 @@
 -- `ties::tie_at` meets its contract. Assumes nothing.
-use mathlib.Core.Path.{_≡_, sym, ap}
-use Prim.Native.Nat.{ℕ}
+use mathlib.Core.Path.{_≡_, ap}
 use native.Mathlib.Omega.{arith}
 use borrow.Author.Needs.{needs}
 use Rattle.laws.specs.Decides.{decides-false}
-use Rattle.laws.specs.Rows.{row}
-use Rattle.codes.specs.Code.{Rec, rec-in}
+use Rattle.codes.specs.Code.{Rec}
 use Rattle.code_records.specs.Records.{as-rec}
 use Rattle.least_test.specs.LeastStarts.{seen-along, seen-low}
 use Rattle.least_grown.specs.OwnTieLaws.{tie-told}

@@ -94,6 +94,7 @@ pub fn put(list: &mut List) {
 
     put_ten_devices(list, random, &[&one_kind, &some_kinds, &high_kinds]);
     put_thirty_two(list, random);
+    put_many_embeddings(list, random);
 }
 
 fn asked(survey: &[u8], threshold: u16, limit: u16) -> Asked<'_> {
@@ -110,6 +111,13 @@ fn put_ten_devices(list: &mut List, random: &mut Random, drawings: &[&Drawing]) 
     list.put_catalogue("one kind, s 1, L 6", &asked(&all[..72], 1, 6));
     let near = survey(random, drawings[1].clone(), 4);
     list.put_catalogue("ten devices that are near, s 4, L 3", &asked(&near, 4, 3));
+}
+
+/// Of one kind: patterns have more embeddings in these drawings than there is room to list.
+fn put_many_embeddings(list: &mut List, random: &mut Random) {
+    let drawings = (0..32).map(|d| generate::drawing_of(random, 10, 9 + d % 6, 1));
+    let survey: Vec<u8> = drawings.flat_map(|d| d.record()).collect();
+    list.put_catalogue("many embeddings, s 2, L 4", &asked(&survey, 2, 4));
 }
 
 fn put_thirty_two(list: &mut List, random: &mut Random) {

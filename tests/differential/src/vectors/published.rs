@@ -3,6 +3,7 @@
 use super::checks::Asked;
 use super::notation::{code, drawing, map};
 use super::{Call, List};
+use crate::drawing::{Cable, Drawing};
 
 /// 000, Canonical DFS Code: three DFS codes of one graph, of which the first is the canonical one. Its order puts the kind of j
 /// before the cable kind; on these three both orders agree.
@@ -64,6 +65,29 @@ fn put_extensions(list: &mut List) {
         ..all
     };
     assert_eq!(list.put_catalogue("000 two graphs, s 2, L 4", &usual), 10);
+
+    let many = Asked {
+        survey: &[&survey[..], &survey, &chain(150), &chain(200)].concat(),
+        threshold: 2,
+        ..all
+    };
+    let name = "000 two graphs twice and many labels, s 2, L 8";
+    assert_eq!(list.put_catalogue(name, &many), 21);
+}
+
+/// Ten devices in a row, of different kinds, as are the cables: 18 labels. Two of them bring a survey over the 32 up to which labels are
+/// bits.
+fn chain(first: u8) -> Vec<u8> {
+    let cables = (0..9).map(|d| Cable {
+        a: d,
+        b: d + 1,
+        kind: first + d as u8,
+    });
+    let chain = Drawing {
+        kinds: (0..10).map(|d| first + d).collect(),
+        cables: cables.collect(),
+    };
+    chain.record().to_vec()
 }
 
 /// 001, A Simple Example: S before N before O before C are 1 to 4. Code word A numbers the molecule depth first, B breadth

@@ -28,10 +28,11 @@ extern "C" {
 #endif
 
 /* SIZES
- * A drawing is one record of 72 bytes: n (2 to 10), m (1 to 20), ten device kinds, twenty cables of three bytes (one end,
- * other end, cable kind). Devices count from 0, kinds are 0 to 255, unused bytes are zero.
+ * A drawing is one record of 72 bytes: n (1 to 10), m (0 where n is 1, else 1 to 20), ten device kinds, twenty cables of three
+ * bytes (one end, other end, cable kind). Devices count from 0, kinds are 0 to 255, unused bytes are zero.
  * A survey is 1 to 32 drawings one after another.
- * A code is 1 to 20 records of 5 bytes: i, j, kind of i, cable kind, kind of j.
+ * A code is 1 to 20 records of 5 bytes: i, j, kind of i, cable kind, kind of j. That of a lone device of kind k is the one
+ * record 0, 0, k, 0, k.
  * An entry of a catalogue is 42 bytes: number of cables, support, the records of the least code, zeros up to 8 records. */
 #define HOLVREIZ_DRAWING_BYTES 72
 #define HOLVREIZ_SURVEY_DRAWINGS 32
@@ -45,15 +46,15 @@ extern "C" {
 enum holvreiz_reason {
     HOLVREIZ_ANSWERED = 0,
     HOLVREIZ_DRAWING_LENGTH = 1,  /* a drawing is not 72 bytes long, or a survey no multiple of 72 */
-    HOLVREIZ_DEVICE_COUNT = 2,    /* n is not 2 to 10 */
-    HOLVREIZ_CABLE_COUNT = 3,     /* m is not 1 to 20 */
+    HOLVREIZ_DEVICE_COUNT = 2,    /* n is not 1 to 10 */
+    HOLVREIZ_CABLE_COUNT = 3,     /* m is not 0 where n is 1, or not 1 to 20 where n is more */
     HOLVREIZ_CABLE_END = 4,       /* an end is not below n */
     HOLVREIZ_CABLE_LOOP = 5,      /* both ends are equal */
     HOLVREIZ_CABLE_PAIR = 6,      /* an earlier cable joins the pair */
     HOLVREIZ_UNUSED_BYTE = 7,     /* an unused byte is not zero */
     HOLVREIZ_NOT_CONNECTED = 8,   /* cables don't lead from each device to every other */
     HOLVREIZ_CODE_LENGTH = 9,     /* a code has no byte, over 100, or no multiple of 5 */
-    HOLVREIZ_STEP = 10,           /* a record is not a permitted step */
+    HOLVREIZ_STEP = 10,           /* a record is not a permitted step; 0, 0 is one alone only, with cable kind 0 */
     HOLVREIZ_KIND = 11,           /* a kind differs from the first one given to its device */
     HOLVREIZ_THRESHOLD = 12,      /* the threshold is not 1 to 32 */
     HOLVREIZ_SIZE_LIMIT = 13,     /* the size limit is not 1 to 8 */
@@ -74,8 +75,8 @@ static inline uint32_t holvreiz_drawing(uint64_t returned) {
     return (uint32_t)(returned >> 40);
 }
 
-/* Writes the least code of a drawing: 5 bytes for each cable. Two drawings get equal codes exactly when some renumbering of
- * devices makes one the other. Count: bytes written. */
+/* Writes the least code of a drawing: 5 bytes for each cable, and 5 for a lone device. Two drawings get equal codes exactly when
+ * some renumbering of devices makes one the other. Count: bytes written. */
 uint64_t holvreiz_code(const uint8_t *drawing, size_t drawing_length, uint8_t *output, size_t output_length);
 
 /* Writes the drawing that a code describes, with devices numbered as in the code and cables in the order of its records.
@@ -85,7 +86,7 @@ uint64_t holvreiz_decode(const uint8_t *code, size_t code_length, uint8_t *outpu
 /* Whether a code is the least of the drawing that it describes. Count: 1 yes, 0 no. */
 uint64_t holvreiz_is_least(const uint8_t *code, size_t code_length);
 
-/* Where the first of two codes comes. Count: 0 equal, 1 before the second, 2 after it. */
+/* Where the first of two codes comes: lone devices before all others, by kind. Count: 0 equal, 1 before the second, 2 after it. */
 uint64_t holvreiz_compare(const uint8_t *first, size_t first_length, const uint8_t *second, size_t second_length);
 
 /* Writes the least map of a pattern into a drawing: for each device of the pattern, in order, the device that it is sent to.
@@ -96,7 +97,7 @@ uint64_t holvreiz_match(const uint8_t *pattern, size_t pattern_length, const uin
 /* Whether two drawings are the same, however their devices are numbered and their cables ordered. Count: 1 yes, 0 no. */
 uint64_t holvreiz_same(const uint8_t *first, size_t first_length, const uint8_t *second, size_t second_length);
 
-/* Writes the catalogue of a survey: an entry for each pattern of at most `limit` cables (1 to 8) that at least `threshold`
+/* Writes the catalogue of a survey: an entry for each pattern of 1 to `limit` cables (1 to 8) that at least `threshold`
  * drawings (1 to 32) contain, codes rising. Needs 42 bytes of output for each entry; how many there are the call alone can tell: after
  * HOLVREIZ_OUTPUT_LENGTH lend more and call again. 65,520 bytes do for most surveys at 2 and 4. Count: entries. */
 uint64_t holvreiz_catalogue(const uint8_t *survey, size_t survey_length, uint32_t threshold, uint32_t limit,

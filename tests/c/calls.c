@@ -107,9 +107,58 @@ static void catalogues(void) {
     EXPECT(is(holvreiz_catalogue(survey, 0, 1, 4, output, LENT), HOLVREIZ_SURVEY_LENGTH, 0, 0) && all(output, LENT, MARK));
 }
 
+/* Every call of devices without cables, of kinds 7 and 8. */
+static void lone(void) {
+    static const uint8_t seven[72] = {1, 0, 7}, eight[72] = {1, 0, 8}, one[72] = {1, 0, 1}, with_cable[72] = {1, 1, 7};
+    static const uint8_t code[5] = {0, 0, 7, 0, 7}, greater[5] = {0, 0, 8, 0, 8};
+    static const uint8_t with_kind[5] = {0, 0, 7, 1, 7}, unequal[5] = {0, 0, 7, 0, 8};
+    uint8_t survey[3 * 72];
+
+    lend();
+    EXPECT(is(holvreiz_code(seven, 72, output, 4), HOLVREIZ_OUTPUT_LENGTH, 0, 0) && all(output, LENT, MARK));
+    EXPECT(is(holvreiz_code(with_cable, 72, output, LENT), HOLVREIZ_CABLE_COUNT, 0, 0) && all(output, LENT, MARK));
+    EXPECT(is(holvreiz_code(seven, 72, output, LENT), HOLVREIZ_ANSWERED, 5, 0));
+    EXPECT(memcmp(output, code, 5) == 0 && all(output + 5, LENT - 5, MARK));
+
+    lend();
+    EXPECT(is(holvreiz_decode(with_kind, 5, output, LENT), HOLVREIZ_STEP, 0, 0) && all(output, LENT, MARK));
+    EXPECT(is(holvreiz_decode(unequal, 5, output, LENT), HOLVREIZ_KIND, 0, 0) && all(output, LENT, MARK));
+    EXPECT(is(holvreiz_decode(code, 5, output, LENT), HOLVREIZ_ANSWERED, 72, 0));
+    EXPECT(memcmp(output, seven, 72) == 0 && all(output + 72, LENT - 72, MARK));
+
+    EXPECT(is(holvreiz_is_least(code, 5), HOLVREIZ_ANSWERED, 1, 0));
+    EXPECT(is(holvreiz_is_least(unequal, 5), HOLVREIZ_KIND, 0, 0));
+    EXPECT(is(holvreiz_compare(code, 5, code, 5), HOLVREIZ_ANSWERED, 0, 0));
+    EXPECT(is(holvreiz_compare(code, 5, greater, 5), HOLVREIZ_ANSWERED, 1, 0));
+    EXPECT(is(holvreiz_compare(greater, 5, path_code, 10), HOLVREIZ_ANSWERED, 1, 0));
+    EXPECT(is(holvreiz_compare(path_code, 10, greater, 5), HOLVREIZ_ANSWERED, 2, 0));
+    EXPECT(is(holvreiz_compare(code, 5, with_kind, 5), HOLVREIZ_STEP, 0, 0));
+
+    lend();
+    EXPECT(is(holvreiz_match(seven, 72, path, 72, output, LENT), HOLVREIZ_ANSWERED, 0, 0) && all(output, LENT, MARK));
+    EXPECT(is(holvreiz_match(path, 72, one, 72, output, LENT), HOLVREIZ_ANSWERED, 0, 0) && all(output, LENT, MARK));
+    EXPECT(is(holvreiz_match(one, 72, path, 72, output, 0), HOLVREIZ_OUTPUT_LENGTH, 0, 0) && all(output, LENT, MARK));
+    EXPECT(is(holvreiz_match(one, 72, path, 72, output, LENT), HOLVREIZ_ANSWERED, 1, 0));
+    EXPECT(output[0] == 0 && all(output + 1, LENT - 1, MARK));
+    EXPECT(is(holvreiz_same(seven, 72, seven, 72), HOLVREIZ_ANSWERED, 1, 0));
+    EXPECT(is(holvreiz_same(seven, 72, eight, 72), HOLVREIZ_ANSWERED, 0, 0));
+    EXPECT(is(holvreiz_same(seven, 72, with_cable, 72), HOLVREIZ_CABLE_COUNT, 0, 0));
+
+    memcpy(survey, seven, 72);
+    memcpy(survey + 72, seven, 72);
+    memcpy(survey + 144, path, 72);
+    lend();
+    EXPECT(is(holvreiz_catalogue(survey, 144, 1, 8, output, LENT), HOLVREIZ_ANSWERED, 0, 0) && all(output, LENT, MARK));
+    EXPECT(is(holvreiz_catalogue(survey, 216, 1, 1, output, LENT), HOLVREIZ_ANSWERED, 1, 0));
+    EXPECT(output[0] == 1 && output[1] == 1 && memcmp(output + 2, path_code, 5) == 0 && all(output + 42, LENT - 42, MARK));
+    memcpy(survey + 72, with_cable, 72);
+    EXPECT(is(holvreiz_catalogue(survey, 216, 1, 1, output, LENT), HOLVREIZ_CABLE_COUNT, 0, 1));
+}
+
 int main(void) {
     codes();
     maps();
     catalogues();
+    lone();
     return failures != 0;
 }

@@ -8,7 +8,8 @@ const CABLES_AT: usize = 12;
 const CABLE_BYTES: usize = 3;
 
 /// A drawing under work. What its 72 bytes cannot hold, and what no accepted drawing has, is refused at once, by the same
-/// reasons as the calls give; whether cables lead from each device to every other is for the calls to say.
+/// reasons as the calls give; whether cables lead from each device to every other is for the calls to say. One device alone is a
+/// drawing.
 ///
 /// ```
 /// use holvreiz::{Drawing, Refusal};

@@ -37,7 +37,7 @@ pub const DRAWING_BYTES: usize = 72;
 /// The most drawings in a survey, which has them one after another.
 pub const SURVEY_DRAWINGS: usize = 32;
 
-/// The size of a code's record: i, j, kind of i, cable kind, kind of j.
+/// The size of a code's record: i, j, kind of i, cable kind, kind of j. A lone device of kind k has the one record 0, 0, k, 0, k.
 pub const RECORD_BYTES: usize = 5;
 
 /// The size of the longest code.
@@ -55,9 +55,9 @@ pub const ENTRY_BYTES: usize = 42;
 pub enum Refusal {
     /// A drawing is not 72 bytes long, or a survey no multiple of that.
     DrawingLength = 1,
-    /// The number of devices is not 2 to 10.
+    /// The number of devices is not 1 to 10.
     DeviceCount,
-    /// The number of cables is not 1 to 20.
+    /// The number of cables is not 0 at one device, or not 1 to 20 at more.
     CableCount,
     /// An end of a cable is no device.
     CableEnd,
@@ -71,7 +71,7 @@ pub enum Refusal {
     NotConnected,
     /// A code has no byte, over 100, or no multiple of 5.
     CodeLength,
-    /// A record of a code is not a permitted step.
+    /// A record of a code is not a permitted step. 0, 0 is one alone only, with cable kind 0.
     Step,
     /// A record of a code gives a device another kind than its first.
     Kind,
@@ -116,8 +116,10 @@ impl Refusal {
             Refusal::DrawingLength => {
                 "a drawing is not 72 bytes long, or a survey no multiple of that"
             }
-            Refusal::DeviceCount => "the number of devices is not 2 to 10",
-            Refusal::CableCount => "the number of cables is not 1 to 20",
+            Refusal::DeviceCount => "the number of devices is not 1 to 10",
+            Refusal::CableCount => {
+                "the number of cables is not 0 at one device, or not 1 to 20 at more"
+            }
             Refusal::CableEnd => "an end of a cable is no device",
             Refusal::CableLoop => "both ends of a cable are equal",
             Refusal::CablePair => "two cables join one pair of devices",
@@ -188,7 +190,8 @@ fn answered(returned: u64) -> Result<usize, Refusal> {
     }
 }
 
-/// Writes the least code of a drawing into `output`, 5 bytes for each cable, and gives the number of bytes written.
+/// Writes the least code of a drawing into `output`, [`RECORD_BYTES`] for each cable and for a lone device, and gives the number of
+/// bytes written.
 ///
 /// Two drawings get equal codes exactly when some renumbering of devices makes one the other.
 pub fn code(drawing: &[u8], output: &mut [u8]) -> Result<usize, Refusal> {
@@ -207,7 +210,8 @@ pub fn is_least(code: &[u8]) -> Result<bool, Refusal> {
     Ok(answered(raw::is_least(code))? == 1)
 }
 
-/// The order of two codes: at the first record that differs; a code that begins another comes before it.
+/// The order of two codes: at the first record that differs; a code that begins another comes before it. Lone devices come before
+/// all others, by kind.
 pub fn compare(first: &[u8], second: &[u8]) -> Result<Ordering, Refusal> {
     Ok(match answered(raw::compare(first, second))? {
         0 => Ordering::Equal,
@@ -239,7 +243,7 @@ pub fn same(first: &[u8], second: &[u8]) -> Result<bool, Refusal> {
 
 /// Writes the catalogue of a survey into `output`, [`ENTRY_BYTES`] for each entry, and gives the number of entries.
 ///
-/// There is an entry for each pattern of at most `limit` cables that at least `threshold` drawings contain; codes rise. Where
+/// There is an entry for each pattern of 1 to `limit` cables that at least `threshold` drawings contain; codes rise. Where
 /// the entries don't fit, the whole output is zero and the refusal is [`Refusal::OutputLength`]. How many there are the call
 /// alone can tell: lend more and call again. 65,520 bytes, 1,560 entries, do for most surveys at 2 and 4; no survey has more than
 /// 8,446,368 entries. A catalogue needs about 1.74 MB of stack (see the crate's first page).

@@ -142,6 +142,66 @@ fn the_catalogue_of_a_survey() {
     );
 }
 
+/// Every call of devices without cables.
+#[test]
+fn lone_devices() {
+    let (one, seven, eight) = (drawing(&[1], &[]), drawing(&[7], &[]), drawing(&[8], &[]));
+    let path = plain(3, &[[0, 1], [1, 2]]);
+    let mut built = holvreiz::Drawing::new();
+    assert_eq!(built.device(7), Ok(0));
+    assert_eq!(built.bytes(), seven);
+    let mut output = [9; 7];
+    assert_eq!(holvreiz::code(&seven, &mut output), Ok(5));
+    assert_eq!(output, [0, 0, 7, 0, 7, 9, 9]);
+    assert_eq!(
+        holvreiz::code(&seven, &mut output[..4]),
+        Err(Refusal::OutputLength)
+    );
+    assert_eq!(
+        holvreiz::code(&drawing(&[7], &[[0, 0, 5]]), &mut output),
+        Err(Refusal::CableCount)
+    );
+
+    let (code, greater) = ([0, 0, 7, 0, 7], [0, 0, 8, 0, 8]);
+    let mut decoded = [9; holvreiz::DRAWING_BYTES];
+    assert_eq!(
+        holvreiz::decode(&code, &mut decoded),
+        Ok(holvreiz::DRAWING_BYTES)
+    );
+    assert_eq!(decoded, seven);
+    assert_eq!(
+        holvreiz::decode(&[0, 0, 7, 1, 7], &mut decoded),
+        Err(Refusal::Step)
+    );
+    assert_eq!(
+        holvreiz::decode(&[0, 0, 7, 0, 8], &mut decoded),
+        Err(Refusal::Kind)
+    );
+    assert_eq!(holvreiz::is_least(&code), Ok(true));
+    assert_eq!(holvreiz::compare(&code, &greater), Ok(Ordering::Less));
+    assert_eq!(
+        holvreiz::compare(&plain_code(&[[0, 1]]), &greater),
+        Ok(Ordering::Greater)
+    );
+
+    let mut map = [9; 2];
+    assert_eq!(holvreiz::match_drawing(&one, &path, &mut map), Ok(Some(1)));
+    assert_eq!(map, [0, 9]);
+    assert_eq!(holvreiz::match_drawing(&seven, &path, &mut map), Ok(None));
+    assert_eq!(holvreiz::same(&seven, &seven), Ok(true));
+    assert_eq!(holvreiz::same(&seven, &eight), Ok(false));
+
+    let mut entries = [9; 2 * holvreiz::ENTRY_BYTES];
+    let survey = [seven, seven, path].concat();
+    assert_eq!(
+        holvreiz::catalogue(&survey[..2 * holvreiz::DRAWING_BYTES], 1, 8, &mut entries),
+        Ok(0)
+    );
+    assert_eq!(entries, [9; 2 * holvreiz::ENTRY_BYTES]);
+    assert_eq!(holvreiz::catalogue(&survey, 1, 1, &mut entries), Ok(1));
+    assert_eq!(entries[..7], [1, 1, 0, 1, 1, 5, 1]);
+}
+
 #[test]
 fn refusals_have_the_numbers_of_the_format() {
     for (place, refusal) in Refusal::ALL.iter().enumerate() {

@@ -43,7 +43,11 @@ use Rattle.readings.specs.Readings.{
 use Rattle.codes.specs.Code.{code-records}
 
 -- THE PAPER'S NUMBER of what a check says
-choice-number : (t : Bool) (a b : Checked) → checked-number (cond t a b) ≡ cond t (checked-number a) (checked-number b)
+pub no-number : (c : Checked) → checked-number c ≡ 0 → c ≡ Accepted
+no-number Accepted e = refl
+no-number (Refused x) e = absurd (omega (arith, number-positive x))
+
+pub choice-number : (t : Bool) (a b : Checked) → checked-number (cond t a b) ≡ cond t (checked-number a) (checked-number b)
 choice-number true a b = refl
 choice-number false a b = refl
 
@@ -65,18 +69,6 @@ code-checked-number bs = go (eqb (length bs) 0 || (ltb 100 (length bs) || not (e
         ≡ cond t 9 (rows-refusal fresh (code-records bs))
     go true = refl
     go false = rows-checked-number 0 fresh (code-records bs)
-
--- a code that is accepted has no refusal
-pub checked-accepted : (bs : List ℕ) → code-checked bs ≡ Accepted → code-refusal bs ≡ 0
-checked-accepted bs e = sym (code-checked-number bs) ∙ ap checked-number e
-
--- and one without a refusal is accepted
-pub accepted-checked : (bs : List ℕ) → code-refusal bs ≡ 0 → code-checked bs ≡ Accepted
-accepted-checked bs fine = go (code-checked bs) (code-checked-number bs ∙ fine)
-  where
-    go : (c : Checked) → checked-number c ≡ 0 → c ≡ Accepted
-    go Accepted e = refl
-    go (Refused x) e = absurd (omega (arith, number-positive x))
 
 -- THE LENGTH decides, or else the records do
 module _ (bs : List ℕ) where

@@ -151,10 +151,14 @@ before-by labels rs [] = false
 before-by labels [] (s ∷ ss) = true
 before-by labels (r ∷ rs) (s ∷ ss) = cond (rec-same r s) (before-by labels rs ss) (rec-before-by labels r s)
 
--- THE LEAST CODE of a drawing: that one of its DFS codes which comes before every other of them
-pub record Least-by (labels : Rec → Rec → Bool) (d : Drawing) (rs : List Rec) : Type 0 where
-  pub code : Code-of d rs
-  pub least : (ss : List Rec) → Code-of d ss → (ss ≡ rs → ⊥) → before-by labels rs ss ≡ true
+-- THE LEAST of a family of codes: that one which comes before every other of them
+pub record Least-among (labels : Rec → Rec → Bool) (Codes : List Rec → Type 0) (rs : List Rec) : Type 0 where
+  pub code : Codes rs
+  pub least : (ss : List Rec) → Codes ss → (ss ≡ rs → ⊥) → before-by labels rs ss ≡ true
+
+-- THE LEAST CODE of a drawing: of all its DFS codes
+abbrev pub Least-by : (labels : Rec → Rec → Bool) → Drawing → List Rec → Type 0
+Least-by labels d = Least-among labels (Code-of d)
 
 -- the paper's order
 abbrev pub rec-before : Rec → Rec → Bool

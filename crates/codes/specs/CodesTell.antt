@@ -1,18 +1,15 @@
 -- Least codes tell drawings apart, over any order of the labels: they are equal exactly when the drawings are the same.
 -- Rests on FullCode and Isomorphisms. Assumes nothing.
-use mathlib.Core.Path.{_≡_, sym, ap, _∙_}
-use mathlib.Core.Bool.{Bool, true}
+use mathlib.Core.Path.{_≡_}
+use mathlib.Core.Bool.{Bool}
 use mathlib.Core.List.{List}
-use Prim.Native.Nat.{ℕ}
 use Rattle.graphs.specs.Drawing.{Drawing}
 use Rattle.graphs.specs.Map.{Same}
-use Rattle.graphs.specs.Embedding.{Ends-in-range}
 use Rattle.graphs.specs.Isomorphisms.{same-symmetric, same-transitive}
 use Rattle.graphs.specs.Graph.{Simple}
-use Rattle.codes.specs.Code.{Rec, Code-of, Least-by, decoded, rec-bytes}
+use Rattle.codes.specs.Code.{Rec, Code-of, Least-by, decoded}
 use Rattle.codes.specs.CodeOrder.{Label-order}
 use Rattle.codes.specs.FullCode.{coded-simple, coded-from-test, least-same}
-use Rattle.codes.specs.CodeBytes.{rec-bytes-injective}
 
 module _ (d e : Drawing) (s : Simple d) (t : Simple e) where
   -- a code of a drawing is a code of every drawing that is the same
@@ -36,14 +33,6 @@ module _ (labels : Rec → Rec → Bool) (o : Label-order labels) (d e : Drawing
       (rs ss : List Rec) → Least-by labels d rs → Least-by labels e ss → (rs ≡ ss → Same d e) × (Same d e → rs ≡ ss)
   least-codes-tell rs ss a b = (
     λ h. code-makes-same d e s t rs (a .code) (rw h (b .code)),
-    λ m. least-same labels o d e rs ss a b (code-along e d t s ss (same-symmetric d e (s .ends) (t .ends) m) (b .code))
+    λ m. least-same labels o (Code-of d) (Code-of e) rs ss a b (code-along e d t s ss (same-symmetric d e (s .ends) (t .ends) m) (b .code))
         (code-along d e s t rs m (a .code)),
   )
-
-  -- the same over code bytes
-  pub least-bytes-tell :
-      (rs ss : List Rec) → Least-by labels d rs → Least-by labels e ss → (rec-bytes rs ≡ rec-bytes ss → Same d e) ×
-      (Same d e → rec-bytes rs ≡ rec-bytes ss)
-  least-bytes-tell rs ss a b =
-      let c = least-codes-tell rs ss a b in
-      (λ h. c .0 (rec-bytes-injective rs ss h), λ m. ap rec-bytes (c .1 m))

@@ -1,34 +1,31 @@
 -- Codes of a whole drawing: a DFS code of d is rows that fit with as many records as d has cables. Greedy full codes are
 -- least, and at most one code is. Rests on Greedy, Isomorphisms and CountingCables. Assumes nothing.
-use mathlib.Core.Path.{_≡_, refl, sym, ap, _∙_}
-use mathlib.Core.Bool.{Bool, true, false}
-use mathlib.Core.List.{List, [], _∷_, _++_}
-use Prim.Native.Nat.{ℕ, _≤_, _<_}
+use mathlib.Core.Path.{_≡_, sym, _∙_}
+use mathlib.Core.Bool.{Bool, true}
+use mathlib.Core.List.{List, [], _∷_}
+use Prim.Native.Nat.{ℕ, _≤_}
 use native.Mathlib.Omega.{arith}
 use lib.ListN.{length}
 use Rattle.laws.specs.Tests.{Three, less, same, more}
 use Rattle.laws.specs.Orders.{Strict-order}
 use Rattle.graphs.specs.Drawing.{Drawing, devices}
-use Rattle.graphs.specs.Map.{same-by}
-use Rattle.graphs.specs.Embedding.{Embedding, Isomorphism}
+use Rattle.graphs.specs.Embedding.{Isomorphism}
 use Rattle.graphs.specs.Embeddings.{identity}
 use Rattle.graphs.specs.Isomorphisms.{isomorphism-from-test, isomorphism-to-test, isomorphism-identity}
 use Rattle.graphs.specs.CountingCables.{isomorphism-cables, embedding-full-connected}
 use Rattle.graphs.specs.Graph.{Simple, Pattern}
 use Rattle.codes.specs.Code.{
   Rec,
-  Reading,
   fresh,
   rows-refusal,
-  read-rows,
-  drawn,
   decoded,
   Code-of,
   before-by,
+  Least-among,
   Least-by,
 }
 use Rattle.codes.specs.CodeOrder.{Label-order, before-strict}
-use Rattle.codes.specs.ReadRows.{rows-invariant, decoded-cables, Good, good-from-test, good-to-test}
+use Rattle.codes.specs.ReadRows.{rows-invariant, decoded-cables, good-from-test, good-to-test}
 use Rattle.codes.specs.Greedy.{Fits, Greedy, greedy-before}
 
 -- a code of d: rows that describe a drawing that is the same
@@ -108,11 +105,11 @@ fits-coded d p r rs t m =
           (t .embedding) (decoded-cables (r ∷ rs) ∙ m);
     }
 
--- AT MOST ONE CODE IS LEAST, of two drawings that have each other's
+-- AT MOST ONE CODE IS LEAST, of two families that have each other's
 pub least-same :
-    (labels : Rec → Rec → Bool) → Label-order labels → (d e : Drawing) (rs ss : List Rec) → Least-by labels d rs → Least-by labels e ss
-    → Code-of d ss → Code-of e rs → rs ≡ ss
-least-same labels o d e rs ss a b c g = go (s .tri rs ss)
+    (labels : Rec → Rec → Bool) → Label-order labels → (C E : List Rec → Type 0) (rs ss : List Rec) → Least-among labels C rs
+    → Least-among labels E ss → C ss → E rs → rs ≡ ss
+least-same labels o C E rs ss a b c g = go (s .tri rs ss)
   where
     s : Strict-order (before-by labels)
     s = before-strict labels o
@@ -124,4 +121,4 @@ least-same labels o d e rs ss a b c g = go (s .tri rs ss)
 
 pub least-unique :
     (labels : Rec → Rec → Bool) → Label-order labels → (d : Drawing) (rs ss : List Rec) → Least-by labels d rs → Least-by labels d ss → rs ≡ ss
-least-unique labels o d rs ss a b = least-same labels o d d rs ss a b (b .code) (a .code)
+least-unique labels o d rs ss a b = least-same labels o (Code-of d) (Code-of d) rs ss a b (b .code) (a .code)

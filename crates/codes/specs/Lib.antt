@@ -1,5 +1,6 @@
 -- Definitions.
 pub mod Code
+pub mod SectionCode
 pub mod RecordPut
 pub mod BranchState
 pub mod Twins
@@ -20,6 +21,8 @@ pub mod Decoded
 pub mod CodeBytes
 pub mod AppendedRecordLaws
 pub mod CodesTell
+pub mod SectionCodes
+pub mod SectionBytes
 pub mod Promise
 pub mod Proved
 pub mod Branch

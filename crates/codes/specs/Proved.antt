@@ -1,41 +1,48 @@
 -- The statements of Promise.antt, proved. Assumes nothing.
 use mathlib.Core.Path.{_≡_}
-use mathlib.Core.Bool.{Bool, true}
+use mathlib.Core.Bool.{true}
 use mathlib.Core.List.{List}
 use Prim.Native.Nat.{ℕ}
-use Rattle.graphs.specs.Drawing.{Drawing, drawing-in, accepted, is-pattern}
-use Rattle.graphs.specs.Graph.{Simple, Pattern}
-use Rattle.graphs.specs.Patterns.{pattern-from-test, pattern-to-test, accepted-pattern}
+use Rattle.graphs.specs.Drawing.{drawing-in, accepted}
+use Rattle.graphs.specs.Graph.{Simple}
+use Rattle.graphs.specs.Patterns.{pattern-from-test, accepted-section}
 use Rattle.graphs.specs.Embeddings.{embedding-from-test}
 use Rattle.graphs.specs.LeastMap.{least-map-found, contains-from-embedding}
 use Rattle.graphs.specs.Containment as Containment
-use Rattle.codes.specs.Code.{Rec, kinds-before, decoded}
+use Rattle.codes.specs.Code.{kinds-before}
 use Rattle.codes.specs.CodeOrder.{kinds-order}
-use Rattle.codes.specs.FullCode.{least-unique}
-use Rattle.codes.specs.LeastCode as LeastCode
-use Rattle.codes.specs.Decoded.{decoded-pattern, decoded-code, decoded-kinds-bytes}
-use Rattle.codes.specs.CodesTell.{least-codes-tell, least-bytes-tell}
+use Rattle.codes.specs.SectionCodes.{
+  row-section,
+  row-coded,
+  sections-tell,
+  section-bytes-tell,
+  least-section-unique,
+  least-section-there,
+  pattern-least,
+  least-pattern,
+}
 use Rattle.codes.specs.Promise.{
   Codes-tell,
   Bytes-tell,
   Support-same,
   Least-there,
   Least-once,
+  Least-pattern,
   Decoded-coded,
   Map-right,
 }
 
 drawing-simple : (xs : List ℕ) → accepted xs ≡ true → Simple (drawing-in xs)
-drawing-simple xs a = accepted-pattern xs a .simple
+drawing-simple xs a = accepted-section xs a .simple
 
 pub codes-tell : Codes-tell
 unfolding Codes-tell
-codes-tell xs ys rs ss a b = least-codes-tell kinds-before kinds-order (drawing-in xs) (drawing-in ys) (drawing-simple xs a)
+codes-tell xs ys rs ss a b = sections-tell kinds-before kinds-order (drawing-in xs) (drawing-in ys) (drawing-simple xs a)
     (drawing-simple ys b) rs ss
 
 pub bytes-tell : Bytes-tell
 unfolding Bytes-tell
-bytes-tell labels o xs ys rs ss a b = least-bytes-tell labels o (drawing-in xs) (drawing-in ys) (drawing-simple xs a) (drawing-simple ys b) rs ss
+bytes-tell labels o xs ys rs ss a b = section-bytes-tell labels o (drawing-in xs) (drawing-in ys) (drawing-simple xs a) (drawing-simple ys b) rs ss
 
 pub support-same : Support-same
 unfolding Support-same
@@ -44,17 +51,21 @@ support-same p q ds a b m =
 
 pub least-there : Least-there
 unfolding Least-there
-least-there xs a = LeastCode.least-code-there kinds-before kinds-order (drawing-in xs) (accepted-pattern xs a)
+least-there xs a = least-section-there kinds-before kinds-order (drawing-in xs) (accepted-section xs a)
 
 pub least-once : Least-once
 unfolding Least-once
-least-once labels o d e =
-    let l = LeastCode.least-code-there labels o d (pattern-from-test d e) in
-    (l .0, l .1, λ ss k. least-unique labels o d ss (l .0) k (l .1))
+least-once labels o d s =
+    let l = least-section-there labels o d s in
+    (l .0, l .1, λ ss k. least-section-unique labels o d ss (l .0) k (l .1))
+
+pub least-of-pattern : Least-pattern
+unfolding Least-pattern
+least-of-pattern labels d rs p = (pattern-least labels p, least-pattern labels p)
 
 pub decoded-coded : Decoded-coded
 unfolding Decoded-coded
-decoded-coded rs g b = (pattern-to-test (decoded rs) (decoded-pattern rs g (decoded-kinds-bytes rs b)), decoded-code rs g)
+decoded-coded rs g b = (row-section rs g b, row-coded rs g)
 
 pub map-right : Map-right
 unfolding Map-right

@@ -6,16 +6,17 @@ use Prim.Native.Nat.{ℕ, zero, suc, _*_}
 use lib.Dec.{ltb}
 use lib.ListN.{length}
 use Rattle.graphs.specs.Drawing.{Drawing, drawing-in, drawing-refusal}
-use Rattle.codes.specs.Code.{Rec, rec-bytes, Least}
+use Rattle.codes.specs.Code.{Rec, rec-bytes}
+use Rattle.codes.specs.SectionCode.{section-records, Least-section}
 use Rattle.records.specs.Refusals.{first-of}
 use Rattle.code_checks.specs.declared.answer.Written.{Written}
 use Rattle.code_checks.specs.declared.answer.Written.the-variants.{Bytes}
 use Rattle.code_checks.specs.Answers.{numbers, written-numbers}
 use Rattle.laws.specs.Lent.{in-front}
 
--- 1 to 8, then 15: output too short for the whole answer, 5 times m bytes
+-- 1 to 8, then 15: output too short for the whole answer, 5 bytes a record
 unfoldable pub coding-refusal : (drawing out : List ℕ) → ℕ
-coding-refusal xs o = first-of (drawing-refusal xs) (cond (ltb (length o) (5 * length (drawing-in xs .cables))) 15 0)
+coding-refusal xs o = first-of (drawing-refusal xs) (cond (ltb (length o) (5 * section-records (drawing-in xs))) 15 0)
 
 -- a refusal writes nothing
 pub record Turned-back (n : ℕ) (r : Written) (out out-now : List ℕ) : Type 0 where
@@ -25,7 +26,7 @@ pub record Turned-back (n : ℕ) (r : Written) (out out-now : List ℕ) : Type 0
 -- the least code is in front, and lent bytes past it keep their content
 pub record Least-written (d : Drawing) (r : Written) (out out-now : List ℕ) : Type 0 where
   pub code : List Rec
-  pub least : Least d code
+  pub least : Least-section d code
   pub answer : r ≡ Bytes (length (rec-bytes code))
   pub output : out-now ≡ in-front (rec-bytes code) out
 

@@ -1,21 +1,26 @@
 -- Coding a drawing, step by step: the bytes of a code copied one by one, and the answer by the tests made. Assumes nothing.
 use mathlib.Core.Path.{_≡_, refl, sym, ap, _∙_}
-use mathlib.Core.Bool.{cond}
-use mathlib.Core.List.{List, _++_}
+use mathlib.Core.Bool.{Bool, true, false, cond}
+use mathlib.Core.List.{List, [], _∷_, _++_}
+use mathlib.Core.Logic.{_⊎_, inl, inr}
 use Prim.Native.Nat.{ℕ, zero, suc, _+_, _*_, _≤_, _<_}
 use native.Mathlib.Numerals.{add-one}
 use native.Mathlib.Omega.{arith}
-use lib.Dec.{ltb}
+use lib.Dec.{ltb, eqb}
 use lib.ListN.{length, getD, set, take, drop}
 use lib.Seq.{length-take-le, take-suc, drop-cons, append-snoc, set-at}
 use borrow.Author.Tests.{lt-ltb, le-ltb}
-use Rattle.graphs.specs.Drawing.{drawing-in, drawing-refusal}
-use Rattle.graphs.specs.Graph.{Simple}
+use Rattle.laws.specs.Rows.{rows}
+use Rattle.graphs.specs.Drawing.{Drawing, devices, kind, drawing-in, drawing-refusal}
+use Rattle.graphs.specs.Graph.{Simple, Pattern, lone-drawing}
+use Rattle.graphs.specs.Sections.{lone-or-pattern, section-pattern}
 use Rattle.graphs.specs.Simple.{simple-from-test}
-use Rattle.graphs.specs.Patterns.{accepted-parts}
-use Rattle.codes.specs.Code.{rec-bytes, Least}
+use Rattle.graphs.specs.Patterns.{accepted-parts, kind-byte}
+use Rattle.codes.specs.Code.{Rec, recs-in, rec-bytes, kinds-before, Least}
+use Rattle.codes.specs.SectionCode.{lone-record, lone-code, section-records, Least-section}
+use Rattle.codes.specs.SectionCodes.{lone-least, least-pattern}
+use Rattle.codes.specs.SectionBytes.{section-code-length}
 use Rattle.codes.specs.CodeBytes.{rec-bytes-in, rec-bytes-length, recs-in-length}
-use Rattle.codes.specs.FullCode.{coded-length, coded-from-test}
 use Rattle.records.specs.declared.code.Code.{Code}
 use Rattle.records.specs.declared.refusal.Refusal.{Refusal}
 use Rattle.records.specs.declared.refusal.Refusal.the-variants.{OutputLength}
@@ -26,7 +31,8 @@ use Rattle.code_checks.specs.declared.answer.Written.{Written}
 use Rattle.code_checks.specs.declared.answer.Written.the-variants.{Bytes, Refused}
 use Rattle.code_checks.specs.Answers.{numbers, written-numbers}
 use Rattle.laws.specs.Lent.{in-front}
-use Rattle.readings.specs.Readings.{held-records}
+use Rattle.readings.specs.Readings.{held-records, Record-held}
+use Rattle.tables.specs.TableOfDrawing.{Byte-record, record-section}
 use Rattle.coding.specs.CodeDrawing.{coding-refusal, Code-as, Code-says}
 
 -- ONE BYTE MORE in front
@@ -49,6 +55,45 @@ module _ (c : Code) (long : length (c .records) ≡ 100) (few : c .count ≤ 20)
   unfolding code-bytes
   code-bytes-are = sym (rec-bytes-in (c .count) (c .records) (omega arith))
 
+-- THE ONE RECORD of a lone device
+pub only-held : (c r : Code) (e : Rec) (k : ℕ) → c .count ≡ 0 → Record-held c e r → e ≡ lone-record k → held-records r ≡ lone-code k
+unfolding recs-in rows
+only-held c r e k none h is =
+    h .records
+    ∙ ap (λ (n : ℕ). recs-in n (c .records) ++ (e ∷ [])) none
+    ∙ ap {B = List Rec} (λ x. x ∷ []) is
+
+-- HOW MANY RECORDS a drawing of m cables needs
+pub records-few : (m n : ℕ) → n ≡ cond (eqb m 0) 1 m → m ≤ 20 → n ≤ 20
+records-few m n e h = go (eqb m 0) e
+  where
+    go : (t : Bool) → n ≡ cond t 1 m → n ≤ 20
+    go true e = omega arith
+    go false e = omega arith
+
+-- THE LEAST CODE of a drawing without cables, and of one with
+module _ (xs : List ℕ) (A : Byte-record xs) where
+  cable-count : length (drawing-in xs .cables) ≡ getD xs 1 0
+  cable-count = accepted-parts xs (A .accepted) .cable-count
+
+  pub lone-drawn-least : (rs : List Rec) → getD xs 1 0 ≡ 0 → rs ≡ lone-code (getD xs 2 0) → Least-section (drawing-in xs) rs
+  lone-drawn-least rs none e = go (lone-or-pattern (drawing-in xs) (record-section A))
+    where
+      go : ((k : ℕ) × (drawing-in xs ≡ lone-drawing k)) ⊎ Pattern (drawing-in xs) → Least-section (drawing-in xs) rs
+      go (inl (k, is)) =
+          let n : 0 < devices (drawing-in xs) = omega (arith, record-section A .devices-low) in
+          let kind-is : getD xs 2 0 ≡ k = kind-byte xs (A .accepted) 0 n ∙ ap (λ (d : Drawing). kind d 0) is in
+          rw (is, e, kind-is) (lone-least kinds-before k)
+      go (inr p) = absurd (omega (arith, p .cables-low, cable-count))
+
+  pub cabled-drawn-least : (rs : List Rec) → (getD xs 1 0 ≡ 0 → ⊥) → Least (drawing-in xs) rs → Least-section (drawing-in xs) rs
+  cabled-drawn-least rs some l =
+      least-pattern kinds-before (section-pattern (record-section A) (omega (arith, some-cable (getD xs 1 0) some, cable-count))) l
+    where
+      some-cable : (m : ℕ) → (m ≡ 0 → ⊥) → 1 ≤ m
+      some-cable zero n = absurd (n refl)
+      some-cable (suc m) n = omega arith
+
 -- THE ANSWER, refusal by refusal
 module _ (xs o : List ℕ) where
   back : (n : ℕ) (r : Written) → coding-refusal xs o ≡ n → 0 < n → written-numbers r ≡ numbers n 0 → Code-says xs r o o
@@ -65,37 +110,42 @@ module _ (xs o : List ℕ) where
   drawing-turned-back f e =
       back (number-of f) (Refused f) (first-some (drawing-refusal xs) _ (rw (← e) (number-positive f)) ∙ sym e) (number-positive f) refl
 
-  module _ (accepted : drawing-refusal xs ≡ 0) (m : ℕ) (is : m ≡ getD xs 1 0) where
-    cables : length (drawing-in xs .cables) ≡ m
-    cables = accepted-parts xs accepted .cable-count ∙ sym is
+  -- n is the number of records
+  module _ (accepted : drawing-refusal xs ≡ 0) (m n : ℕ) (is : m ≡ getD xs 1 0) (records : n ≡ cond (eqb m 0) 1 m) where
+    needed : section-records (drawing-in xs) ≡ n
+    unfolding section-records
+    needed = rw (accepted-parts xs accepted .cable-count, ← is) (sym records)
 
     simple : Simple (drawing-in xs)
     simple = let a = accepted-parts xs accepted in simple-from-test (drawing-in xs) (rw (a .device-count) (a .cables-good))
 
     -- 15
-    pub output-turned-back : length o < 5 * m → Code-says xs (Refused OutputLength) o o
+    pub output-turned-back : length o < 5 * n → Code-says xs (Refused OutputLength) o o
     unfolding coding-refusal
     output-turned-back h =
-        let short : length o < 5 * length (drawing-in xs .cables) = rw cables h in
+        let short : length o < 5 * section-records (drawing-in xs) = rw needed h in
         back 15 (Refused OutputLength) (first-none _ _ accepted ∙ rw (lt-ltb _ _ short)) (omega arith) refl
 
     -- the whole answer has room
-    module _ (room : 5 * m ≤ length o) (c : Code) (long : length (c .records) ≡ 100) (least : Least (drawing-in xs) (held-records c)) where
-      pub code-count : c .count ≡ m
+    module _ (room : 5 * n ≤ length o) (c : Code) (long : length (c .records) ≡ 100)
+        (least : Least-section (drawing-in xs) (held-records c)) where
+      pub code-count : c .count ≡ n
       code-count =
-          sym (recs-in-length (c .count) (c .records))
-          ∙ coded-length (drawing-in xs) simple (held-records c) (coded-from-test (drawing-in xs) simple (held-records c) (least .code)) ∙ cables
+          sym (recs-in-length (c .count) (c .records)) ∙ section-code-length (drawing-in xs) simple (held-records c) (least .code) ∙ needed
 
       pub code-fits : (c .count ≤ 20) × (5 * c .count ≤ length o)
-      code-fits = (omega (arith, code-count, is, accepted-parts xs accepted .cables-high), omega (arith, code-count))
+      code-fits = (
+        omega (arith, code-count, records-few m n records (omega (arith, is, accepted-parts xs accepted .cables-high))),
+        omega (arith, code-count),
+      )
 
-      pub code-written : (z : List ℕ) → z ≡ in-front (code-bytes c) o → Code-says xs (Bytes (5 * m)) o z
+      pub code-written : (z : List ℕ) → z ≡ in-front (code-bytes c) o → Code-says xs (Bytes (5 * n)) o z
       unfolding Code-says Code-as coding-refusal
       code-written z e =
-          let enough : 5 * length (drawing-in xs .cables) ≤ length o = rw cables room in
-          let size : length (rec-bytes (held-records c)) ≡ 5 * m =
-          rec-bytes-length (held-records c) ∙ ap (λ (n : ℕ). 5 * n) (recs-in-length (c .count) (c .records) ∙ code-count) in
-          rw (first-none (drawing-refusal xs) (cond (ltb (length o) (5 * length (drawing-in xs .cables))) 15 0) accepted, le-ltb _ _ enough)
+          let enough : 5 * section-records (drawing-in xs) ≤ length o = rw needed room in
+          let size : length (rec-bytes (held-records c)) ≡ 5 * n =
+          rec-bytes-length (held-records c) ∙ ap (λ (k : ℕ). 5 * k) (recs-in-length (c .count) (c .records) ∙ code-count) in
+          rw (first-none (drawing-refusal xs) (cond (ltb (length o) (5 * section-records (drawing-in xs))) 15 0) accepted, le-ltb _ _ enough)
           (record {
             code = held-records c;
             least = least;

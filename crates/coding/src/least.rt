@@ -1,7 +1,8 @@
 // Whether a code is the least of the drawing that it describes: it is unless some start of that drawing leads to a code
-// before it.
+// before it. A lone device has no other code.
 use code_checks::answer::Verdict;
 use code_checks::check::check_code;
+use code_checks::check::is_lone;
 use least_test::starts::some_start_better;
 use records::code::Code;
 use records::drawing::Drawing;
@@ -16,6 +17,9 @@ pub fn is_least(code: &[u8]) -> Verdict
 {
     if let Checked::Refused(r) = check_code(code) {
         return Verdict::Refused(r);
+    }
+    if is_lone(code) {
+        return Verdict::Yes;
     }
     let table = labels_of_code(code);
     let twins = twins_of(&table);

@@ -11,7 +11,7 @@ use Rattle.code_records.specs.declared.«record».Order.the-variants.{Before, E
 use Rattle.code_checks.specs.declared.answer.Compared.{Compared}
 use Rattle.code_checks.specs.declared.answer.Compared.the-variants as compared
 use Rattle.records.specs.Refusals.{or-else}
-use Rattle.readings.specs.Readings.{code-checked}
+use Rattle.code_checks.specs.SectionChecks.{section-code-checked}
 use Rattle.codes.specs.Code.{code-records}
 
 -- ORDER of two codes
@@ -36,4 +36,4 @@ compare-answer (checked.Refused r) o = compared.Refused r
 unfoldable pub Compare-says : (first second : List ℕ) → Compared → Type 0
 Compare-says xs ys r =
     r
-    ≡ compare-answer (or-else (code-checked xs) (code-checked ys)) (codes-order (code-records xs) (code-records ys))
+    ≡ compare-answer (or-else (section-code-checked xs) (section-code-checked ys)) (codes-order (code-records xs) (code-records ys))

@@ -9,7 +9,8 @@ use lib.Dec.{eqb}
 use lib.ListN.{length}
 use borrow.Author.Tests.{ne-eqb}
 use Rattle.laws.specs.Tests.{Three, less, same, more, true-and-false}
-use Rattle.codes.specs.Code.{Rec, kinds-before, rec-in, recs-in, before-by, before, code-refusal}
+use Rattle.codes.specs.Code.{Rec, kinds-before, rec-in, recs-in, before-by, before}
+use Rattle.codes.specs.SectionCode.{section-code-refusal}
 use Rattle.codes.specs.CodeOrder.{kinds-order, before-strict, difference-decides, later-not-before, same-first}
 use Rattle.records.specs.declared.refusal.Refusal.{Refusal}
 use Rattle.records.specs.declared.refusal.Checked.{Checked}
@@ -24,12 +25,13 @@ use Rattle.code_checks.specs.declared.answer.Compared.the-variants as compared
 use Rattle.code_checks.specs.Answers.{numbers, compared-numbers}
 use Rattle.records.specs.Refusals.{or-else}
 use Rattle.code_checks.specs.AnswerLaws.{or-else-number}
-use Rattle.readings.specs.Readings.{code-checked}
+use Rattle.code_checks.specs.SectionChecks.{section-code-checked}
 use Rattle.codes.specs.Code.{code-records}
 use Rattle.code_records.specs.Records.{order-of}
 use Rattle.code_records.specs.RecordLaws.{order-before, order-equal, order-after}
 use Rattle.comparing.specs.Comparing.{codes-order, compared-count, order-answer, compare-answer, Compare-says}
-use Rattle.code_checks.specs.CheckLaws.{checked-record, code-checked-number}
+use Rattle.code_checks.specs.CheckLaws.{checked-record}
+use Rattle.code_checks.specs.SectionCheckLaws.{section-checked-number}
 
 -- ONE RECORD of each
 module _ (r s : Rec) (rs ss : List Rec) where
@@ -124,17 +126,17 @@ codes-order-equal rs ss e = go (before rs ss) (before ss rs) refl refl e
 
 -- THE OUTCOME, place by place
 module _ (xs ys : List ℕ) where
-  pub compare-first : (r : Refusal) → code-checked xs ≡ Refused r → Compare-says xs ys (compared.Refused r)
+  pub compare-first : (r : Refusal) → section-code-checked xs ≡ Refused r → Compare-says xs ys (compared.Refused r)
   unfolding Compare-says
   compare-first r e = rw e
 
-  module _ (first : code-checked xs ≡ Accepted) where
-    pub compare-second : (r : Refusal) → code-checked ys ≡ Refused r → Compare-says xs ys (compared.Refused r)
+  module _ (first : section-code-checked xs ≡ Accepted) where
+    pub compare-second : (r : Refusal) → section-code-checked ys ≡ Refused r → Compare-says xs ys (compared.Refused r)
     unfolding Compare-says
     compare-second r e = rw (first, e)
 
     pub compare-order :
-        (o : Order) → code-checked ys ≡ Accepted → codes-order (code-records xs) (code-records ys) ≡ o
+        (o : Order) → section-code-checked ys ≡ Accepted → codes-order (code-records xs) (code-records ys) ≡ o
         → Compare-says xs ys (order-answer o)
     unfolding Compare-says
     compare-order o second e = rw (first, second, e)
@@ -161,11 +163,11 @@ answer-numbers (Refused r) rs ss =
 pub compare-says-numbers :
     (xs ys : List ℕ) (r : Compared) → Compare-says xs ys r
     → compared-numbers r
-    ≡ numbers (first-of (code-refusal xs) (code-refusal ys))
-    (cond (eqb (first-of (code-refusal xs) (code-refusal ys)) 0) (compared-count (code-records xs) (code-records ys)) 0)
+    ≡ numbers (first-of (section-code-refusal xs) (section-code-refusal ys))
+    (cond (eqb (first-of (section-code-refusal xs) (section-code-refusal ys)) 0) (compared-count (code-records xs) (code-records ys)) 0)
 unfolding Compare-says
 compare-says-numbers xs ys r e =
     ap compared-numbers e
-    ∙ answer-numbers (or-else (code-checked xs) (code-checked ys)) (code-records xs) (code-records ys)
+    ∙ answer-numbers (or-else (section-code-checked xs) (section-code-checked ys)) (code-records xs) (code-records ys)
     ∙ ap (λ (n : ℕ). numbers n (cond (eqb n 0) (compared-count (code-records xs) (code-records ys)) 0))
-    (or-else-number (code-checked xs) (code-checked ys) ∙ ap₂ first-of (code-checked-number xs) (code-checked-number ys))
+    (or-else-number (section-code-checked xs) (section-code-checked ys) ∙ ap₂ first-of (section-checked-number xs) (section-checked-number ys))

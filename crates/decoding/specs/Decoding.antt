@@ -4,25 +4,30 @@ use mathlib.Core.Bool.{cond}
 use mathlib.Core.List.{List}
 use Prim.Native.Nat.{ℕ, _+_, _*_, _<_}
 use lib.Dec.{ltb, eqb}
-use lib.ListN.{length, set}
+use lib.ListN.{length, set, replicate}
 use Rattle.graphs.specs.Drawing.{drawing-bytes}
 use Rattle.codes.specs.Code.{Rec, decoded, code-refusal}
+use Rattle.codes.specs.SectionCode.{section-code-refusal, section-of}
 use Rattle.records.specs.declared.refusal.Refusal.the-variants.{OutputLength}
 use Rattle.records.specs.declared.refusal.Checked.{Checked}
 use Rattle.records.specs.declared.refusal.Checked.the-variants.{Accepted, Refused}
 use Rattle.code_checks.specs.declared.answer.Written.{Written}
 use Rattle.records.specs.Refusals.{or-else}
 use Rattle.code_checks.specs.Answers.{Put-says}
-use Rattle.readings.specs.Readings.{code-checked}
+use Rattle.code_checks.specs.SectionChecks.{section-code-checked}
 use Rattle.codes.specs.Code.{code-records}
 
 -- 9, 10, 11, then 15 where fewer than 72 bytes are lent
 unfoldable pub decode-checked : (code out : List ℕ) → Checked
-decode-checked bs o = or-else (code-checked bs) (cond (ltb (length o) 72) (Refused OutputLength) Accepted)
+decode-checked bs o = or-else (section-code-checked bs) (cond (ltb (length o) 72) (Refused OutputLength) Accepted)
 
 -- the record of the drawing that a code describes
 abbrev pub decoded-bytes : (code : List ℕ) → List ℕ
-decoded-bytes bs = drawing-bytes (decoded (code-records bs))
+decoded-bytes bs = drawing-bytes (section-of (code-records bs))
+
+-- the same of a DFS code, record by record
+abbrev pub steps-bytes : (code : List ℕ) → List ℕ
+steps-bytes bs = drawing-bytes (decoded (code-records bs))
 
 -- THE OUTCOME: a refusal, and the output is as it was, or the record in front of the lent bytes
 abbrev pub Decode-says : (code : List ℕ) → Written → (out out-now : List ℕ) → Type 0
@@ -48,8 +53,13 @@ write-record k e bs = write-cable k e (write-forward e (write-first k e bs))
 
 -- a code that is not refused, and the 72 bytes for its drawing
 pub record Can-write (code drawing : List ℕ) : Type 0 where
-  pub accepted : code-refusal code ≡ 0
+  pub accepted : section-code-refusal code ≡ 0
   pub room : length drawing ≡ 72
+
+-- a DFS code that is not refused, and 72 zeros
+pub record Can-write-steps (code drawing : List ℕ) : Type 0 where
+  pub accepted : code-refusal code ≡ 0
+  pub zeros : drawing ≡ replicate 72 0
 
 -- its record k and the same bytes
 pub record Can-write-record (k : ℕ) (e : Rec) (drawing : List ℕ) : Type 0 where

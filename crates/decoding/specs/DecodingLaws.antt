@@ -12,6 +12,7 @@ use borrow.Author.Tests.{lt-ltb, le-ltb}
 use Rattle.laws.specs.Lists.{snoc, snoc-length, map-append}
 use Rattle.laws.specs.Rows as rows
 use Rattle.graphs.specs.Drawing.{Drawing, devices, drawing-bytes}
+use Rattle.graphs.specs.Graph.{lone-drawing}
 use Rattle.graphs.specs.DrawingBytes.{drawing-bytes-length}
 use Rattle.codes.specs.Code.{
   Rec,
@@ -44,16 +45,21 @@ use Rattle.codes.specs.ReadRows.{
   good-from-test,
 }
 use Rattle.codes.specs.CodeBytes.{accepted-code, recs-in-length}
+use Rattle.codes.specs.Code.{code-records}
+use Rattle.codes.specs.SectionCode.{records-good, lone-kind, lone-bytes, section-code-refusal, section-of}
+use Rattle.codes.specs.SectionCodes.{Row-good, row-good-from-test, lone-code-of, section-of-rows}
+use Rattle.codes.specs.SectionBytes.{lone-bytes-parts, accepted-section-code}
 use Rattle.records.specs.declared.refusal.Refusal.{Refusal}
 use Rattle.records.specs.declared.refusal.Refusal.the-variants.{OutputLength}
 use Rattle.records.specs.declared.refusal.Checked.the-variants.{Accepted, Refused}
 use Rattle.records.specs.Refusals.{checked-number}
 use Rattle.records.specs.Refusals.{first-of}
 use Rattle.code_checks.specs.declared.answer.Written.the-variants as written
-use Rattle.readings.specs.Readings.{code-checked}
+use Rattle.code_checks.specs.SectionChecks.{section-code-checked}
 use Rattle.decoding.specs.Decoding.{
   decode-checked,
   decoded-bytes,
+  steps-bytes,
   Decode-says,
   write-device,
   write-cable,
@@ -63,7 +69,8 @@ use Rattle.decoding.specs.Decoding.{
 use Rattle.code_checks.specs.AnswerLaws.{or-else-number}
 use Rattle.decoding.specs.DrawnLaws.{write-first-some, write-first-none, forward-some, forward-none, nothing-drawn}
 use Rattle.decoding.specs.DrawnLaws.{device-more, device-written, cable-more, cable-written}
-use Rattle.code_checks.specs.CheckLaws.{checked-record, code-checked-number, checked-accepted}
+use Rattle.code_checks.specs.CheckLaws.{checked-record}
+use Rattle.code_checks.specs.SectionCheckLaws.{section-checked-number, section-checked-accepted, one-record, steps-accepted}
 
 -- A CABLE AND A NEW DEVICE
 both-written :
@@ -201,35 +208,60 @@ unfolding decoded
 decoded-devices [] g = absurd (omega (arith, good-from-test [] g .one))
 decoded-devices (r ∷ rs) g = rows-invariant r rs (good-from-test (r ∷ rs) g .accepted) .ten
 
+-- so do all rows that are accepted
+pub row-few : (rs : List Rec) → records-good rs ≡ true → (devices (section-of rs) ≤ 10) × (length (section-of rs .cables) ≤ 20)
+row-few rs g = go (row-good-from-test rs g)
+  where
+    go : Row-good rs → (devices (section-of rs) ≤ 10) × (length (section-of rs .cables) ≤ 20)
+    go (Row-good.lone k e) = rw (e, lone-code-of k) (omega arith, omega arith)
+    go (Row-good.cabled h) =
+        rw (section-of-rows rs h) (decoded-devices rs h, omega (arith, decoded-cables rs, good-from-test rs h .most))
+
+section-length : (rs : List Rec) → records-good rs ≡ true → length (drawing-bytes (section-of rs)) ≡ 72
+section-length rs g = let few = row-few rs g in drawing-bytes-length (section-of rs) (few .0) (few .1)
+
+-- A LONE DEVICE
+pub lone-written : (k : ℕ) → write-device 0 k (replicate 72 0) ≡ drawing-bytes (lone-drawing k)
+lone-written k = ap (write-device 0 k) nothing-drawn ∙ device-written (record { kinds = []; cables = [] }) k (omega arith)
+
+-- THE TWO WAYS: a lone device's record, and a DFS code's
+module _ (bs : List ℕ) (fine : section-code-refusal bs ≡ 0) where
+  pub decoded-lone : (r : Rec) → lone-bytes bs ≡ true → r ≡ rec-in (rows.row 5 0 bs) → drawing-bytes (lone-drawing (r .ki)) ≡ decoded-bytes bs
+  unfolding section-of lone-kind
+  decoded-lone r t is =
+      let p = lone-bytes-parts bs t in
+      let rs : code-records bs ≡ r ∷ [] = one-record bs (p .0) ∙ ap (λ (s : Rec). s ∷ []) (sym is) in
+      rw (p .1, rs)
+
+  pub decoded-steps : lone-bytes bs ≡ false → steps-bytes bs ≡ decoded-bytes bs
+  decoded-steps t = ap drawing-bytes (sym (section-of-rows (code-records bs) (accepted-code bs (steps-accepted bs fine t) .good)))
+
 -- THE OUTCOME, place by place
 module _ (bs o : List ℕ) where
   -- its number is the paper's: 9, 10, 11, then 15
-  pub decode-checked-number : checked-number (decode-checked bs o) ≡ first-of (code-refusal bs) (cond (ltb (length o) 72) 15 0)
+  pub decode-checked-number : checked-number (decode-checked bs o) ≡ first-of (section-code-refusal bs) (cond (ltb (length o) 72) 15 0)
   unfolding decode-checked
   decode-checked-number =
-      or-else-number (code-checked bs) _ ∙ ap₂ first-of (code-checked-number bs) (short (ltb (length o) 72))
+      or-else-number (section-code-checked bs) _ ∙ ap₂ first-of (section-checked-number bs) (short (ltb (length o) 72))
     where
       short : (t : Bool) → checked-number (cond t (Refused OutputLength) Accepted) ≡ cond t 15 0
       short true = refl
       short false = refl
 
-  pub decode-refused : (r : Refusal) (z : List ℕ) → code-checked bs ≡ Refused r → z ≡ o → Decode-says bs (written.Refused r) o z
+  pub decode-refused : (r : Refusal) (z : List ℕ) → section-code-checked bs ≡ Refused r → z ≡ o → Decode-says bs (written.Refused r) o z
   unfolding decode-checked
   decode-refused r z e same = record { answer = rw e; output = rw e same }
 
-  pub decode-short : (z : List ℕ) → code-checked bs ≡ Accepted → length o < 72 → z ≡ o → Decode-says bs (written.Refused OutputLength) o z
+  pub decode-short : (z : List ℕ) → section-code-checked bs ≡ Accepted → length o < 72 → z ≡ o → Decode-says bs (written.Refused OutputLength) o z
   unfolding decode-checked
   decode-short z e h same = record { answer = rw (e, lt-ltb (length o) 72 h); output = rw (e, lt-ltb (length o) 72 h) same }
 
   -- a code that is accepted describes a drawing of 72 bytes
-  pub decoded-length : code-checked bs ≡ Accepted → length (decoded-bytes bs) ≡ 72
-  decoded-length e =
-      let a = accepted-code bs (checked-accepted bs e) in
-      let rs = recs-in (length bs / 5) bs in
-      drawing-bytes-length (decoded rs) (decoded-devices rs (a .good)) (omega (arith, decoded-cables rs, good-from-test rs (a .good) .most))
+  pub decoded-length : section-code-checked bs ≡ Accepted → length (decoded-bytes bs) ≡ 72
+  decoded-length e = section-length (code-records bs) (accepted-section-code bs (section-checked-accepted bs e) .good)
 
   pub decode-written :
-      (z : List ℕ) → code-checked bs ≡ Accepted → 72 ≤ length o → z ≡ decoded-bytes bs ++ drop 72 o → Decode-says bs (written.Bytes 72) o z
+      (z : List ℕ) → section-code-checked bs ≡ Accepted → 72 ≤ length o → z ≡ decoded-bytes bs ++ drop 72 o → Decode-says bs (written.Bytes 72) o z
   unfolding decode-checked
   decode-written z e h is =
       let n = decoded-length e in

@@ -1,6 +1,7 @@
 // Decoding: the drawing that a code describes, as its record of 72 bytes.
 use code_checks::answer::Written;
 use code_checks::check::check_code;
+use code_checks::check::is_lone;
 use code_records::record::Record;
 use records::bytes::clear;
 use records::code::Code;
@@ -11,7 +12,7 @@ ghost use mathlib.Core.Path.{_≡_};
 ghost use Prim.Native.Nat.{_<_};
 ghost use lib.ListN.{length};
 ghost use Rattle.code_records.specs.Records.{as-rec};
-ghost use Rattle.decoding.specs.Decoding.{decoded-bytes, Decode-says, Can-write, Can-write-record};
+ghost use Rattle.decoding.specs.Decoding.{steps-bytes, decoded-bytes, Decode-says, Can-write-steps, Can-write, Can-write-record};
 ghost use Rattle.decoding.specs.Decoding.{write-device, write-cable, write-record};
 
 // The next device of a record under work: it has as many as its number says.
@@ -49,14 +50,27 @@ fn write_record(drawing: &mut [u8], k: usize, next: Record)
     write_cable(drawing, k, next);
 }
 
+// What a DFS code draws, over zeros.
+fn write_steps(code: &[u8], drawing: &mut [u8])
+    requires { ⌜ Can-write-steps (now code) (now drawing) ⌝ }
+    ensures { λ _. ⌜ now (drawing .exit) ≡ steps-bytes (now (code .entry)) ⌝ }
+{
+    for k in 0..code.len() / Code::RECORD_BYTES {
+        write_record(drawing, k, Record::at(code, k));
+    }
+}
+
 // The whole record of the drawing: unused bytes stay zero.
 fn write_drawing(code: &[u8], drawing: &mut [u8])
     requires { ⌜ Can-write (now code) (now drawing) ⌝ }
     ensures { λ _. ⌜ now (drawing .exit) ≡ decoded-bytes (now (code .entry)) ⌝ }
 {
     clear(drawing);
-    for k in 0..code.len() / Code::RECORD_BYTES {
-        write_record(drawing, k, Record::at(code, k));
+    if is_lone(code) {
+        let only = Record::at(code, 0);
+        write_device(drawing, 0, only.ki);
+    } else {
+        write_steps(code, drawing);
     }
 }
 

@@ -6,23 +6,24 @@ use mathlib.Core.List.{List}
 use Prim.Native.Nat.{ℕ}
 use native.Mathlib.Omega.{arith}
 use Rattle.laws.specs.Tests.{false-unless}
-use Rattle.codes.specs.Code.{Rec, code-records, code-refusal, rec-bytes, before, kinds-before}
+use Rattle.codes.specs.Code.{Rec, code-records, rec-bytes, before, kinds-before}
 use Rattle.codes.specs.CodeOrder.{kinds-order, before-strict}
-use Rattle.codes.specs.CodeBytes.{accepted-code}
-use Rattle.code_records.specs.declared.«record».Order.{Order}
+use Rattle.codes.specs.SectionCode.{section-code-refusal}
+use Rattle.codes.specs.SectionBytes.{accepted-section-code}
 use Rattle.code_records.specs.declared.«record».Order.the-variants as order
 use Rattle.code_checks.specs.declared.answer.Compared.{Compared}
 use Rattle.code_checks.specs.declared.answer.Compared.the-variants.{Before, Equal, After}
 use Rattle.code_checks.specs.Answers.{compared-numbers}
 use Rattle.comparing.specs.Comparing.{codes-order, order-answer, Compare-says}
 use Rattle.comparing.specs.ComparingLaws.{codes-order-equal}
-use Rattle.code_checks.specs.CheckLaws.{accepted-checked}
+use Rattle.code_checks.specs.SectionCheckLaws.{section-accepted-checked}
 
 -- two cases of an answer are apart
 abbrev case-number : Compared → ℕ
 case-number r = compared-numbers r .count
 
-module _ (xs ys : List ℕ) (r : Compared) (first : code-refusal xs ≡ 0) (second : code-refusal ys ≡ 0) (says : Compare-says xs ys r) where
+module _ (xs ys : List ℕ) (r : Compared) (first : section-code-refusal xs ≡ 0) (second : section-code-refusal ys ≡ 0)
+    (says : Compare-says xs ys r) where
   abbrev rs : List Rec
   rs = code-records xs
 
@@ -31,7 +32,7 @@ module _ (xs ys : List ℕ) (r : Compared) (first : code-refusal xs ≡ 0) (seco
 
   told : r ≡ order-answer (codes-order rs ss)
   unfolding Compare-says
-  told = says ∙ rw (accepted-checked xs first, accepted-checked ys second)
+  told = says ∙ rw (section-accepted-checked xs first, section-accepted-checked ys second)
 
   -- the two tests of the order give the three answers
   by-tests : (p q : Bool) → before rs ss ≡ p → before ss rs ≡ q → r ≡ order-answer (cond p order.Before (cond q order.After order.Equal))
@@ -75,7 +76,9 @@ module _ (xs ys : List ℕ) (r : Compared) (first : code-refusal xs ≡ 0) (seco
 
   pub if-equal : r ≡ Equal → xs ≡ ys
   unfolding codes-order
-  if-equal e = sym (accepted-code xs first .bytes) ∙ ap rec-bytes (go (before rs ss) (before ss rs) refl refl) ∙ accepted-code ys second .bytes
+  if-equal e =
+      sym (accepted-section-code xs first .bytes) ∙ ap rec-bytes (go (before rs ss) (before ss rs) refl refl)
+      ∙ accepted-section-code ys second .bytes
     where
       go : (p q : Bool) → before rs ss ≡ p → before ss rs ≡ q → rs ≡ ss
       go true q f g = absurd (omega (arith, ap case-number (sym e ∙ by-tests true q f g)))

@@ -1,24 +1,46 @@
--- THE THREE DEMANDS, and the rules of matching and of the order: each a record of statements over the bytes that a caller sees, and
+-- THE THREE DEMANDS, and the rules of matching, of the order and of lone sections: each a record of statements over the bytes that a caller sees, and
 -- a theorem that proves it. A statement's hypothesis is what the contract of a public entry says of its answer: `Code-says`,
 -- `Decode-says`, `Catalogue-says` and so on, from C `Code-returns` and its fellows. It holds of whatever the call answers (r, v or
 -- t), where the lent output was o before the call and is z after it. Terms.antt has the terms that only these statements need. That
 -- an answer and every lent byte follow from the input is in Determined.antt. Assumes nothing.
 use mathlib.Core.Path.{_≡_}
-use mathlib.Core.Bool.{true}
-use mathlib.Core.List.{List, []}
-use Prim.Native.Nat.{ℕ, _*_, _≤_}
-use lib.ListN.{length}
+use mathlib.Core.Bool.{true, false, cond}
+use mathlib.Core.List.{List, [], _∷_, _++_}
+use Prim.Native.Nat.{ℕ, _*_, _≤_, _<_}
+use lib.Dec.{eqb}
+use lib.ListN.{length, getD}
 use denote.Ref.{RefT}
-use Rattle.graphs.specs.Drawing.{devices, drawing-in, drawing-refusal, byte-list, accepted}
-use Rattle.graphs.specs.Survey.{length-refusal, bytes-refusal}
-use Rattle.codes.specs.Code.{Rec, rec-bytes, code-records, code-refusal, rows-good, decoded, Code-of, Least, before}
+use Rattle.graphs.specs.Drawing.{
+  Drawing,
+  devices,
+  kind,
+  drawing-in,
+  drawing-bytes,
+  drawing-refusal,
+  byte-list,
+  accepted,
+}
+use Rattle.graphs.specs.Graph.{lone-drawing}
+use Rattle.graphs.specs.Survey.{survey, length-refusal, bytes-refusal}
+use Rattle.codes.specs.Code.{Rec, fresh, rows-refusal, rec-bytes, code-records, before}
+use Rattle.codes.specs.SectionCode.{
+  lone-bytes,
+  section-code-refusal,
+  section-records,
+  records-good,
+  section-of,
+  Section-code,
+  Least-section,
+}
+use Rattle.codes.specs.SectionBytes.{records-accepted}
+use Rattle.growth.specs.Catalogue.{Entry, Catalogue}
 use Rattle.records.specs.declared.refusal.Checked.{Checked}
 use Rattle.records.specs.declared.survey.SurveyChecked.{SurveyChecked}
 use Rattle.records.specs.declared.catalogued.Catalogued.{Catalogued}
 use Rattle.records.specs.declared.catalogued.Catalogued.the-variants.{Entries}
 use Rattle.records.specs.Refusals.{checked-number, first-of}
 use Rattle.records.specs.Surveys.{Survey-answer}
-use Rattle.readings.specs.Readings.{code-checked}
+use Rattle.code_checks.specs.SectionChecks.{section-code-checked}
 use Rattle.reader.specs.declared.reader.Opened.{Opened}
 use Rattle.reader.specs.Readers.{Opens}
 use Rattle.code_checks.specs.declared.answer.Written.{Written}
@@ -64,18 +86,18 @@ use Rattle.demands.specs.Terms.{
   Order-clauses,
   Contained,
   Least-map-written,
+  Lone-mapped,
+  lone-five,
   Whole-catalogue,
 }
 use Rattle.demands.specs.RefusedLaws as refused
 use Rattle.demands.specs.EntryRefusals as entries
 use Rattle.demands.specs.CatalogueNumbers.{c-catalogue-refused}
-use Rattle.demands.specs.Coding.{accepted-refusal, back-exactly-least, yes-exactly-back}
+use Rattle.demands.specs.Coding.{accepted-refusal, code-is-least, back-exactly-least, yes-exactly-back}
 use Rattle.demands.specs.CodeWays.{
-  code-is-least,
   code-drawn,
   drawn-accepted,
   drawn-coded,
-  code-accepted,
   code-decodes,
   equal-bytes-exactly-mapped,
 }
@@ -84,6 +106,8 @@ use Rattle.demands.specs.WholeCatalogues.{whole-catalogue}
 use Rattle.demands.specs.Matches as matches
 use Rattle.demands.specs.Comparisons as comparisons
 use Rattle.demands.specs.OrderClauses.{order-clauses}
+use Rattle.demands.specs.LoneRules as lone
+use Rattle.demands.specs.LoneSurveys.{supports-none, survey-empty, lone-adds-none}
 
 -- THE FIRST DEMAND: every public entry, on any bytes of any length, gives its answer or the one refusal of the paper's table: the first
 -- place that applies, from the top, of two drawings or codes the first one's before the second's. A refusal writes nothing; only
@@ -96,19 +120,19 @@ pub record First-demand : Type 0 where
   pub check-length : (bs : List ℕ) (c : Checked) → checked-number c ≡ length-refusal bs
       → Refused-as (length-refusal bs) (checked-number c) 0 [] []
   pub check-survey : (bs : List ℕ) (r : SurveyChecked) → Survey-answer (bytes-refusal bs) bs r → Survey-refused bs r
-  pub check-code : (bs : List ℕ) (c : Checked) → c ≡ code-checked bs → Refused-as (code-refusal bs) (checked-number c) 0 [] []
+  pub check-code : (bs : List ℕ) (c : Checked) → c ≡ section-code-checked bs → Refused-as (section-code-refusal bs) (checked-number c) 0 [] []
   -- the reader
   pub reader : (bs : RefT (List ℕ)) (r : Opened) → Opens bs r → Reader-refused bs r
   -- coding and matching
   pub code : (xs : List ℕ) (r : Written) (o z : List ℕ) → Code-says xs r o z
-      → Refused-as (first-of (drawing-refusal xs) (too-short (5 * length (drawing-in xs .cables)) o))
+      → Refused-as (first-of (drawing-refusal xs) (too-short (5 * section-records (drawing-in xs)) o))
       (written-numbers r .refusal) (written-numbers r .count) o z
   pub decode : (bs : List ℕ) (r : Written) (o z : List ℕ) → Decode-says bs r o z
-      → Refused-as (first-of (code-refusal bs) (too-short 72 o)) (written-numbers r .refusal) (written-numbers r .count) o z
+      → Refused-as (first-of (section-code-refusal bs) (too-short 72 o)) (written-numbers r .refusal) (written-numbers r .count) o z
   pub is-least : (bs : List ℕ) (v : Verdict) → Least-says bs v
-      → Refused-as (code-refusal bs) (verdict-numbers v .refusal) (verdict-numbers v .count) [] []
+      → Refused-as (section-code-refusal bs) (verdict-numbers v .refusal) (verdict-numbers v .count) [] []
   pub compare : (xs ys : List ℕ) (r : Compared) → Compare-says xs ys r
-      → Refused-as (first-of (code-refusal xs) (code-refusal ys)) (compared-numbers r .refusal) (compared-numbers r .count) [] []
+      → Refused-as (first-of (section-code-refusal xs) (section-code-refusal ys)) (compared-numbers r .refusal) (compared-numbers r .count) [] []
   pub match-drawing : (xs ys : List ℕ) (r : Matched) (o z : List ℕ) → Match-says xs ys r o z
       → Refused-as (first-of (first-of (drawing-refusal xs) (drawing-refusal ys)) (too-short (devices (drawing-in xs)) o))
       (match-refusal r) (match-count r) o z
@@ -120,12 +144,12 @@ pub record First-demand : Type 0 where
   pub text : (a : Catalogued) (es : List ℕ) (r : Printed) (o z : List ℕ) → Text-says a es r o z → Text-made (text-of a es) r o z
   -- the same from C: refusal, count and drawing stand in the number that is returned
   pub c-code : (xs : List ℕ) (x : ℕ) (o z : List ℕ) (c : Code-returns xs x o z)
-      → Returned-as (first-of (drawing-refusal xs) (too-short (5 * length (drawing-in xs .cables)) o)) x (written-numbers (c .answer) .count) o z
+      → Returned-as (first-of (drawing-refusal xs) (too-short (5 * section-records (drawing-in xs)) o)) x (written-numbers (c .answer) .count) o z
   pub c-decode : (bs : List ℕ) (x : ℕ) (o z : List ℕ) (c : Decode-returns bs x o z)
-      → Returned-as (first-of (code-refusal bs) (too-short 72 o)) x (written-numbers (c .answer) .count) o z
-  pub c-is-least : (bs : List ℕ) (x : ℕ) (c : Least-returns bs x) → Returned-as (code-refusal bs) x (verdict-numbers (c .answer) .count) [] []
+      → Returned-as (first-of (section-code-refusal bs) (too-short 72 o)) x (written-numbers (c .answer) .count) o z
+  pub c-is-least : (bs : List ℕ) (x : ℕ) (c : Least-returns bs x) → Returned-as (section-code-refusal bs) x (verdict-numbers (c .answer) .count) [] []
   pub c-compare : (xs ys : List ℕ) (x : ℕ) (c : Compare-returns xs ys x)
-      → Returned-as (first-of (code-refusal xs) (code-refusal ys)) x (compared-numbers (c .answer) .count) [] []
+      → Returned-as (first-of (section-code-refusal xs) (section-code-refusal ys)) x (compared-numbers (c .answer) .count) [] []
   pub c-match : (xs ys : List ℕ) (x : ℕ) (o z : List ℕ) (c : Match-returns xs ys x o z)
       → Returned-as (first-of (first-of (drawing-refusal xs) (drawing-refusal ys)) (too-short (devices (drawing-in xs)) o)) x
       (match-count (c .answer)) o z
@@ -161,12 +185,12 @@ first-demand =
 -- A CALL OF CODING with an accepted drawing and bytes enough; one of decoding with an accepted code and bytes enough
 pub record Coding-call (xs : List ℕ) (r : Written) (o z : List ℕ) : Type 0 where
   pub drawing : accepted xs ≡ true
-  pub room : 5 * length (drawing-in xs .cables) ≤ length o
+  pub room : 5 * section-records (drawing-in xs) ≤ length o
   pub says : Code-says xs r o z
 
 pub record Decoding-call (bs : List ℕ) (r : Written) (o z : List ℕ) : Type 0 where
   pub bytes : byte-list bs ≡ true
-  pub code : code-refusal bs ≡ 0
+  pub code : section-code-refusal bs ≡ 0
   pub room : 72 ≤ length o
   pub says : Decode-says bs r o z
 
@@ -178,19 +202,20 @@ pub record Round-call (bs : List ℕ) (r s : Written) (o p z w : List ℕ) : Typ
 
 -- THE SECOND DEMAND
 pub record Second-demand : Type 0 where
-  -- the code of an accepted drawing is that one of all its DFS codes which comes before every other of them
+  -- the code of an accepted drawing is that one of all its codes which comes before every other of them: DFS codes, and of a lone
+  -- device its one record (`Section-code`)
   pub code-is-least : {xs : List ℕ} {r : Written} {o z : List ℕ} → Coding-call xs r o z → Least-written (drawing-in xs) r o z
-  -- a code decodes to the drawing that it describes: an accepted one, of which it is a DFS code
+  -- a code decodes to the drawing that it describes: an accepted one, of which it is a code
   pub decodes : {bs : List ℕ} {r : Written} {o z : List ℕ} → Decoding-call bs r o z
-      → Drawn (code-records bs) r o z × (drawing-refusal (written-bytes r z) ≡ 0) × Code-of (drawing-in (written-bytes r z)) (code-records bs)
+      → Drawn (code-records bs) r o z × (drawing-refusal (written-bytes r z) ≡ 0) × Section-code (drawing-in (written-bytes r z)) (code-records bs)
   -- every row of 1 to 20 records that reads as a code is accepted, and if it is one of an accepted drawing it decodes to that drawing
-  pub every-code : (rs : List Rec) → rows-good rs ≡ true → code-refusal (rec-bytes rs) ≡ 0
-  pub every-code-decodes : (xs : List ℕ) (rs : List Rec) → accepted xs ≡ true → Code-of (drawing-in xs) rs
+  pub every-code : (rs : List Rec) → records-good rs ≡ true → section-code-refusal (rec-bytes rs) ≡ 0
+  pub every-code-decodes : (xs : List ℕ) (rs : List Rec) → accepted xs ≡ true → Section-code (drawing-in xs) rs
       → (r : Written) (o z : List ℕ) → 72 ≤ length o → Decode-says (rec-bytes rs) r o z → Mapped (drawing-in (written-bytes r z)) (drawing-in xs)
   -- coding what a code decodes to gives the code back exactly when it was the least, and the least test answers yes exactly then
   pub back-when-least : {bs : List ℕ} {r s : Written} {o p z w : List ℕ} → Round-call bs r s o p z w
-      → (written-bytes s w ≡ bs → Least (decoded (code-records bs)) (code-records bs))
-      × (Least (decoded (code-records bs)) (code-records bs) → written-bytes s w ≡ bs)
+      → (written-bytes s w ≡ bs → Least-section (section-of (code-records bs)) (code-records bs))
+      × (Least-section (section-of (code-records bs)) (code-records bs) → written-bytes s w ≡ bs)
   pub yes-when-back : {bs : List ℕ} {r s : Written} {o p z w : List ℕ} → Round-call bs r s o p z w → (v : Verdict) → Least-says bs v
       → (v ≡ verdict.Yes → written-bytes s w ≡ bs) × (written-bytes s w ≡ bs → v ≡ verdict.Yes)
 
@@ -203,7 +228,7 @@ second-demand =
         drawn-accepted bs r o z (c .code) (c .room) (c .says) (c .bytes),
         drawn-coded bs r o z (c .code) (c .room) (c .says) (c .bytes),
       );
-      every-code = code-accepted;
+      every-code = records-accepted;
       every-code-decodes = code-decodes;
       back-when-least = λ {bs} {r} {s} {o} {p} {z} {w} c.
           let d = c .decoding in back-exactly-least bs (d .bytes) (d .code) o p (d .room) (c .room) z w r s (d .says) (c .says);
@@ -221,7 +246,7 @@ pub record Third-demand : Type 0 where
   pub same-tells : {xs ys : List ℕ} {r s : Written} {o p z w : List ℕ} → Coding-call xs r o z → Coding-call ys s p w
       → (t : Sameness) → Same-says xs ys t
       → (t ≡ sameness.Yes → written-bytes r z ≡ written-bytes s w) × (written-bytes r z ≡ written-bytes s w → t ≡ sameness.Yes)
-  -- a catalogue that is written to its end: each pattern of at most l cables that at least s drawings contain has just one entry,
+  -- a catalogue that is written to its end: each pattern of 1 to l cables that at least s drawings contain has just one entry,
   -- with its least code and its support, there is no other entry, and codes rise (`Whole-catalogue`, field by field)
   pub catalogue : (bs : List ℕ) (s l n : ℕ) (o z : List ℕ) → Catalogue-says bs s l (Entries n) o z → Whole-catalogue bs s l n o z
 
@@ -251,12 +276,12 @@ matching-rule = record { map-written = matches.map-written; no-map = matches.no-
 -- THE ORDER RULE: the order is the one of Yan and Han, and comparing two accepted codes tells it; equal exactly when the bytes are
 pub record Order-rule : Type 0 where
   pub clauses : Order-clauses
-  pub equal : (xs ys : List ℕ) (r : Compared) → code-refusal xs ≡ 0 → code-refusal ys ≡ 0 → Compare-says xs ys r
+  pub equal : (xs ys : List ℕ) (r : Compared) → section-code-refusal xs ≡ 0 → section-code-refusal ys ≡ 0 → Compare-says xs ys r
       → (r ≡ compared.Equal → xs ≡ ys) × (xs ≡ ys → r ≡ compared.Equal)
-  pub first-before : (xs ys : List ℕ) (r : Compared) → code-refusal xs ≡ 0 → code-refusal ys ≡ 0 → Compare-says xs ys r
+  pub first-before : (xs ys : List ℕ) (r : Compared) → section-code-refusal xs ≡ 0 → section-code-refusal ys ≡ 0 → Compare-says xs ys r
       → (r ≡ compared.Before → before (code-records xs) (code-records ys) ≡ true)
       × (before (code-records xs) (code-records ys) ≡ true → r ≡ compared.Before)
-  pub first-after : (xs ys : List ℕ) (r : Compared) → code-refusal xs ≡ 0 → code-refusal ys ≡ 0 → Compare-says xs ys r
+  pub first-after : (xs ys : List ℕ) (r : Compared) → section-code-refusal xs ≡ 0 → section-code-refusal ys ≡ 0 → Compare-says xs ys r
       → (r ≡ compared.After → before (code-records ys) (code-records xs) ≡ true)
       × (before (code-records ys) (code-records xs) ≡ true → r ≡ compared.After)
 
@@ -267,4 +292,67 @@ order-rule =
       equal = λ xs ys r a b says. (comparisons.if-equal xs ys r a b says, comparisons.equal-if xs ys r a b says);
       first-before = λ xs ys r a b says. (comparisons.if-before xs ys r a b says, comparisons.before-if xs ys r a b says);
       first-after = λ xs ys r a b says. (comparisons.if-after xs ys r a b says, comparisons.after-if xs ys r a b says);
+    }
+
+-- LONE SECTIONS, one device without cables: what the demands and the rules come to for them
+pub record Lone-rule : Type 0 where
+  -- the record of one device of any kind is accepted; one with cables is refused 3, and so are 2 to 10 devices without
+  pub accepted-lone : (k : ℕ) → k < 256 → accepted (drawing-bytes (lone-drawing k)) ≡ true
+  pub cables-refused : (xs : List ℕ) → length xs ≡ 72 → getD xs 0 0 ≡ 1 → 0 < getD xs 1 0 → drawing-refusal xs ≡ 3
+  pub none-refused : (xs : List ℕ) → length xs ≡ 72 → 2 ≤ getD xs 0 0 → getD xs 0 0 ≤ 10 → getD xs 1 0 ≡ 0 → drawing-refusal xs ≡ 3
+  -- its code is the record 0, 0, k, 0, k, and that decodes to it
+  pub code-is : {xs : List ℕ} {r : Written} {o z : List ℕ} → Coding-call xs r o z → drawing-in xs .cables ≡ []
+      → written-bytes r z ≡ lone-five (kind (drawing-in xs) 0)
+  pub decodes-to : (k : ℕ) (r : Written) (o z : List ℕ) → 72 ≤ length o → Decode-says (lone-five k) r o z
+      → drawing-in (written-bytes r z) ≡ lone-drawing k
+  -- alone, it is refused 10 for a cable kind and 11 for unequal kinds; 0, 0 before, behind or among other records is refused 10
+  pub five-refusal : (k c l : ℕ) → section-code-refusal (0 ∷ 0 ∷ k ∷ c ∷ l ∷ []) ≡ cond (eqb c 0) (cond (eqb k l) 0 11) 10
+  pub elsewhere-refused : (rs ss : List Rec) (e : Rec) → rows-refusal fresh rs ≡ 0 → e .i ≡ 0 → e .j ≡ 0
+      → 2 ≤ length (rs ++ (e ∷ ss)) → length (rs ++ (e ∷ ss)) ≤ 20 → section-code-refusal (rec-bytes (rs ++ (e ∷ ss))) ≡ 10
+  -- it is least, comes before every code with cables, and two stand by their kinds
+  pub is-least : (k : ℕ) (v : Verdict) → Least-says (lone-five k) v → v ≡ verdict.Yes
+  pub first : (k : ℕ) (ys : List ℕ) (r : Compared) → section-code-refusal ys ≡ 0 → lone-bytes ys ≡ false → Compare-says (lone-five k) ys r
+      → r ≡ compared.Before
+  pub by-kind : (k l : ℕ) (r : Compared) → k < l → Compare-says (lone-five k) (lone-five l) r → r ≡ compared.Before
+  -- as a pattern it is sent to the lowest device of its kind, and to none exactly if there is none
+  pub map : (xs ys : List ℕ) (n : ℕ) (o z : List ℕ) → drawing-in xs .cables ≡ [] → Match-says xs ys (matched.Map n) o z
+      → Lone-mapped (kind (drawing-in xs) 0) (drawing-in ys) o z
+  pub no-device : (xs ys : List ℕ) (o z : List ℕ) → drawing-refusal xs ≡ 0 → drawing-refusal ys ≡ 0 → 1 ≤ length o
+      → drawing-in xs .cables ≡ [] → Match-says xs ys matched.NotContained o z
+      → (v : ℕ) → v < devices (drawing-in ys) → kind (drawing-in ys) v ≡ kind (drawing-in xs) 0 → ⊥
+  -- it is the same as one of its kind, and never as a drawing with cables
+  pub mapped-by-kind : (xs ys : List ℕ) → drawing-refusal xs ≡ 0 → drawing-refusal ys ≡ 0 → drawing-in xs .cables ≡ [] → drawing-in ys .cables ≡ []
+      → (Mapped (drawing-in xs) (drawing-in ys) → kind (drawing-in xs) 0 ≡ kind (drawing-in ys) 0)
+      × (kind (drawing-in xs) 0 ≡ kind (drawing-in ys) 0 → Mapped (drawing-in xs) (drawing-in ys))
+  pub never-mapped : (xs ys : List ℕ) → drawing-refusal xs ≡ 0 → drawing-refusal ys ≡ 0 → drawing-in xs .cables ≡ []
+      → 1 ≤ length (drawing-in ys .cables) → Mapped (drawing-in xs) (drawing-in ys) → ⊥
+  -- in a survey it supports no pattern with cables and adds no entry; a survey of such drawings alone has none
+  pub supports-none : (p d : Drawing) → 1 ≤ length (p .cables) → d .cables ≡ [] → Contained p d → ⊥
+  pub survey-empty : (bs : List ℕ) (s l n : ℕ) (o z : List ℕ)
+      → ((k : ℕ) (none : Drawing) → k < length (survey bs) → getD (survey bs) k none .cables ≡ [])
+      → Catalogue-says bs s l (Entries n) o z → n ≡ 0
+  pub adds-none : (ds es : List Drawing) (d : Drawing) (s l : ℕ) (gs : List Entry) → d .cables ≡ []
+      → (Catalogue (ds ++ (d ∷ es)) s l gs → Catalogue (ds ++ es) s l gs) × (Catalogue (ds ++ es) s l gs → Catalogue (ds ++ (d ∷ es)) s l gs)
+
+pub lone-rule : Lone-rule
+lone-rule =
+    record {
+      accepted-lone = lone.accepted-lone;
+      cables-refused = lone.lone-with-cables;
+      none-refused = lone.none-refused;
+      code-is = λ {xs} {r} {o} {z} c n.
+          lone.code-is xs r o z (accepted-refusal xs (c .drawing)) n (code-is-least xs r o z (accepted-refusal xs (c .drawing)) (c .room) (c .says));
+      decodes-to = lone.decodes-to;
+      five-refusal = lone.five-refusal;
+      elsewhere-refused = lone.elsewhere-refused;
+      is-least = lone.lone-is-least;
+      first = lone.first;
+      by-kind = lone.by-kind;
+      map = lone.map;
+      no-device = lone.no-device;
+      mapped-by-kind = lone.mapped-by-kind;
+      never-mapped = lone.never-mapped;
+      supports-none = supports-none;
+      survey-empty = survey-empty;
+      adds-none = lone-adds-none;
     }

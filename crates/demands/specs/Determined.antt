@@ -6,7 +6,7 @@ use mathlib.Core.Bool.{Bool, true, false}
 use mathlib.Core.List.{List, []}
 use mathlib.Core.Option.{Option}
 use mathlib.Core.Logic.{_⊎_, inl, inr}
-use Prim.Native.Nat.{ℕ, zero, suc, _*_, _<_, _≤_}
+use Prim.Native.Nat.{ℕ, zero, suc, _*_}
 use native.Mathlib.Omega.{arith}
 use lib.Dec.{ltb}
 use lib.ListN.{length}
@@ -20,7 +20,8 @@ use Rattle.graphs.specs.Survey as surveys
 use Rattle.graphs.specs.Survey.{survey, length-refusal, bytes-refusal, survey-refusal, drawing-count}
 use Rattle.codes.specs.Code.{Rec, code-records, kinds-before}
 use Rattle.codes.specs.CodeOrder.{kinds-order}
-use Rattle.codes.specs.FullCode.{least-unique}
+use Rattle.codes.specs.SectionCodes.{least-section-unique}
+use Rattle.codes.specs.SectionCode.{section-records}
 use Rattle.growth.specs.Catalogue.{Entry}
 use Rattle.growth.specs.Catalogues.{catalogue-unique}
 use Rattle.records.specs.declared.refusal.Refusal.{Refusal}
@@ -38,7 +39,7 @@ use Rattle.code_checks.specs.declared.answer.Written.the-variants as written
 use Rattle.code_checks.specs.declared.answer.Verdict.{Verdict}
 use Rattle.code_checks.specs.declared.answer.Compared.{Compared}
 use Rattle.code_checks.specs.Answers.{Numbers, written-numbers, verdict-numbers, compared-numbers}
-use Rattle.readings.specs.Readings.{code-checked}
+use Rattle.code_checks.specs.SectionChecks.{section-code-checked}
 use Rattle.coding.specs.CodeDrawing.{coding-refusal, Code-as, Code-says}
 use Rattle.decoding.specs.Decoding.{Decode-says}
 use Rattle.coding.specs.LeastSays.{Least-answer, Least-says}
@@ -134,7 +135,7 @@ check-survey-determined bs r s a b = go r s refl refl (a .refusal) (b .refusal)
         ap₂ survey-check.Refused (one-case (f .number) (bytes-plain bs) x y (ap number-at e) (ap number-at g))
         (ap (λ (z : surveys.Refusal). z .drawing) (e ∙ sym g))
 
-pub check-code-determined : (bs : List ℕ) (c d : Checked) → c ≡ code-checked bs → d ≡ code-checked bs → c ≡ d
+pub check-code-determined : (bs : List ℕ) (c d : Checked) → c ≡ section-code-checked bs → d ≡ section-code-checked bs → c ≡ d
 check-code-determined bs c d e f = e ∙ sym f
 
 -- CODING
@@ -147,7 +148,7 @@ pub code-determined : (xs o z w : List ℕ) (r s : Written) → Code-says xs r o
 unfolding Code-says Code-as coding-refusal
 code-determined xs o z w r s =
     go (coding-refusal xs o)
-    (first-plain (drawing-refusal xs) _ (drawing-plain xs) (short-plain (ltb (length o) (5 * length (drawing-in xs .cables)))))
+    (first-plain (drawing-refusal xs) _ (drawing-plain xs) (short-plain (ltb (length o) (5 * section-records (drawing-in xs)))))
   where
     d : Drawing
     d = drawing-in xs
@@ -157,7 +158,7 @@ code-determined xs o z w r s =
 
     go : (n : ℕ) → Plain n → Code-as n d r o z → Code-as n d s o w → Agree r s z w
     go zero p a b =
-        let e : a .code ≡ b .code = least-unique kinds-before kinds-order d (a .code) (b .code) (a .least) (b .least) in
+        let e : a .code ≡ b .code = least-section-unique kinds-before kinds-order d (a .code) (b .code) (a .least) (b .least) in
         (rw (a .answer, b .answer, e), rw (a .output, b .output, e))
     go (suc n) p a b = (written-case n p r s (ap refusal-at (a .answer)) (ap refusal-at (b .answer)), a .output ∙ sym (b .output))
 
@@ -167,7 +168,7 @@ decode-determined bs o z w r s a b = (a .answer ∙ sym (b .answer), a .output �
 
 -- THE LEAST TEST
 pub least-determined : (bs : List ℕ) (v w : Verdict) → Least-says bs v → Least-says bs w → v ≡ w
-least-determined bs v w = go (code-checked bs)
+least-determined bs v w = go (section-code-checked bs)
   where
     rs : List Rec
     rs = code-records bs

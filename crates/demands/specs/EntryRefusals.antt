@@ -2,7 +2,7 @@
 use mathlib.Core.Path.{_≡_, refl, ap, subst, _∙_}
 use mathlib.Core.Bool.{Bool}
 use mathlib.Core.List.{List, []}
-use Prim.Native.Nat.{ℕ, _*_, _/_, _<_, _≤_}
+use Prim.Native.Nat.{ℕ, _*_, _/_}
 use native.Mathlib.Omega.{arith}
 use lib.ListN.{length}
 use borrow.Author.Tests.{lt-ltb, le-ltb}
@@ -10,16 +10,16 @@ use denote.Ref.{RefT}
 use Rattle.graphs.specs.Drawing.{devices, drawing-in, drawing-refusal}
 use Rattle.graphs.specs.Survey as surveys
 use Rattle.graphs.specs.Survey.{length-refusal, bytes-refusal}
-use Rattle.codes.specs.Code.{code-refusal}
+use Rattle.codes.specs.SectionCode.{section-code-refusal, section-records}
 use Rattle.records.specs.declared.refusal.Checked.{Checked}
 use Rattle.records.specs.declared.survey.SurveyChecked.{SurveyChecked}
 use Rattle.records.specs.declared.survey.SurveyChecked.the-variants.{Accepted, Refused}
 use Rattle.records.specs.declared.catalogued.Catalogued.{Catalogued}
 use Rattle.records.specs.Refusals.{checked-number, number-positive, first-of}
 use Rattle.records.specs.Surveys.{survey-checked, Survey-answer}
-use Rattle.readings.specs.Readings.{code-checked}
+use Rattle.code_checks.specs.SectionChecks.{section-code-checked}
 use Rattle.code_checks.specs.Answers.{written-numbers, verdict-numbers, compared-numbers}
-use Rattle.code_checks.specs.CheckLaws.{code-checked-number}
+use Rattle.code_checks.specs.SectionCheckLaws.{section-checked-number}
 use Rattle.matching.specs.MatchAnswers.{match-count, same-value}
 use Rattle.reader.specs.declared.reader.Opened.{Opened}
 use Rattle.reader.specs.Readers.{Opens}
@@ -66,8 +66,8 @@ pub check-length-refused :
     (bs : List ℕ) (c : Checked) → checked-number c ≡ length-refusal bs → Refused-as (length-refusal bs) (checked-number c) 0 [] []
 check-length-refused bs = checked-as (length-refusal bs)
 
-pub check-code-refused : (bs : List ℕ) (c : Checked) → c ≡ code-checked bs → Refused-as (code-refusal bs) (checked-number c) 0 [] []
-check-code-refused bs c e = checked-as (code-refusal bs) c (ap checked-number e ∙ code-checked-number bs)
+pub check-code-refused : (bs : List ℕ) (c : Checked) → c ≡ section-code-checked bs → Refused-as (section-code-refusal bs) (checked-number c) 0 [] []
+check-code-refused bs c e = checked-as (section-code-refusal bs) c (ap checked-number e ∙ section-checked-number bs)
 
 pub check-survey-refused : (bs : List ℕ) (r : SurveyChecked) → Survey-answer (bytes-refusal bs) bs r → Survey-refused bs r
 unfolding surveys.refusal
@@ -107,19 +107,19 @@ returned-as number refusal count x o z t r =
     }
 
 pub c-code-refused : (xs : List ℕ) (x : ℕ) (o z : List ℕ) (c : Code-returns xs x o z)
-    → Returned-as (first-of (drawing-refusal xs) (too-short (5 * length (drawing-in xs .cables)) o)) x (written-numbers (c .answer) .count) o z
+    → Returned-as (first-of (drawing-refusal xs) (too-short (5 * section-records (drawing-in xs)) o)) x (written-numbers (c .answer) .count) o z
 c-code-refused xs x o z c = returned-as _ _ _ x o z (code-tells c) (code-turned-back xs (c .answer) o z (c .says))
 
 pub c-decode-refused : (bs : List ℕ) (x : ℕ) (o z : List ℕ) (c : Decode-returns bs x o z)
-    → Returned-as (first-of (code-refusal bs) (too-short 72 o)) x (written-numbers (c .answer) .count) o z
+    → Returned-as (first-of (section-code-refusal bs) (too-short 72 o)) x (written-numbers (c .answer) .count) o z
 c-decode-refused bs x o z c = returned-as _ _ _ x o z (decode-tells c) (decode-turned-back bs (c .answer) o z (c .says))
 
 pub c-least-refused : (bs : List ℕ) (x : ℕ) (c : Least-returns bs x)
-    → Returned-as (code-refusal bs) x (verdict-numbers (c .answer) .count) [] []
+    → Returned-as (section-code-refusal bs) x (verdict-numbers (c .answer) .count) [] []
 c-least-refused bs x c = returned-as _ _ _ x [] [] (least-tells c) (least-turned-back bs (c .answer) (c .says))
 
 pub c-compare-refused : (xs ys : List ℕ) (x : ℕ) (c : Compare-returns xs ys x)
-    → Returned-as (first-of (code-refusal xs) (code-refusal ys)) x (compared-numbers (c .answer) .count) [] []
+    → Returned-as (first-of (section-code-refusal xs) (section-code-refusal ys)) x (compared-numbers (c .answer) .count) [] []
 c-compare-refused xs ys x c = returned-as _ _ _ x [] [] (compare-tells c) (compare-turned-back xs ys (c .answer) (c .says))
 
 pub c-match-refused : (xs ys : List ℕ) (x : ℕ) (o z : List ℕ) (c : Match-returns xs ys x o z)

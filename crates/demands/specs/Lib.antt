@@ -20,3 +20,5 @@ pub mod ReadEntries
 pub mod Matches
 pub mod Comparisons
 pub mod OrderClauses
+pub mod LoneRules
+pub mod LoneSurveys

@@ -6,7 +6,7 @@ use Prim.Native.Nat.{ℕ, suc, _/_, _%_}
 use lib.Dec.{leb, eqb}
 use lib.ListN.{length, getD}
 use borrow.Author.Tests.{eqb-false}
-use Rattle.graphs.specs.Drawing.{Cable, drawing-in, joined-by, cable-refusal, unused-zero, connected, drawing-refusal}
+use Rattle.graphs.specs.Drawing.{Cable, drawing-in, joined-by, cable-refusal, cables-fit, unused-zero, connected, drawing-refusal}
 use Rattle.graphs.specs.Survey as surveys
 use Rattle.graphs.specs.Survey.{records-in, length-refusal, drawings-refusal, bytes-refusal, survey-refusal}
 use Rattle.records.specs.declared.refusal.Refusal.{Refusal}
@@ -94,8 +94,8 @@ drawing-plain bs =
     let m = getD bs 1 0 in
     let d = drawing-in bs in
     either (not (eqb (length bs) 72)) (plain 1 refl refl)
-    (either (not (leb 2 n && leb n 10)) (plain 2 refl refl)
-    (either (not (leb 1 m && leb m 20)) (plain 3 refl refl)
+    (either (not (leb 1 n && leb n 10)) (plain 2 refl refl)
+    (either (not (cables-fit n m)) (plain 3 refl refl)
     (either (not (eqb (cable-refusal n [] (d .cables)) 0)) (cable-plain n [] (d .cables))
     (either (not (unused-zero bs)) (plain 7 refl refl) (either (connected d) (plain 0 refl refl) (plain 8 refl refl))))))
 

@@ -14,8 +14,9 @@ use Rattle.graphs.specs.Drawing.{Drawing, devices, drawing-in, drawing-refusal}
 use Rattle.graphs.specs.Survey as surveys
 use Rattle.graphs.specs.Survey.{survey, survey-refusal}
 use Rattle.graphs.specs.Map.{least-map}
-use Rattle.codes.specs.Code.{code-records, code-refusal, kinds-before}
+use Rattle.codes.specs.Code.{code-records, kinds-before}
 use Rattle.codes.specs.CodeOrder.{kinds-order}
+use Rattle.codes.specs.SectionCode.{section-code-refusal, section-records}
 use Rattle.growth.specs.Catalogue.{Entry, Catalogue}
 use Rattle.growth.specs.Catalogues.{catalogue-unique}
 use Rattle.records.specs.declared.refusal.Checked.{Checked}
@@ -27,8 +28,8 @@ use Rattle.code_checks.specs.declared.answer.Verdict.{Verdict}
 use Rattle.code_checks.specs.declared.answer.Compared.{Compared}
 use Rattle.code_checks.specs.Answers.{written-numbers, verdict-numbers, compared-numbers, Numbers, numbers, put-bytes}
 use Rattle.code_checks.specs.AnswerLaws.{put-numbers}
-use Rattle.readings.specs.Readings.{code-checked}
-use Rattle.code_checks.specs.CheckLaws.{code-checked-number}
+use Rattle.code_checks.specs.SectionChecks.{section-code-checked}
+use Rattle.code_checks.specs.SectionCheckLaws.{section-checked-number}
 use Rattle.coding.specs.CodeDrawing.{coding-refusal, Code-as, Code-says}
 use Rattle.decoding.specs.Decoding.{decode-checked, decoded-bytes, Decode-says}
 use Rattle.decoding.specs.DecodingLaws.{decode-checked-number}
@@ -65,7 +66,7 @@ code-as-refused zero d r o z s =
 code-as-refused (suc n) d r o z s = record { one = rw (s .answer); uncounted = λ h. rw (s .answer); untouched = λ h. s .output }
 
 pub code-turned-back : (xs : List ℕ) (r : Written) (o z : List ℕ) → Code-says xs r o z
-    → Refused-as (first-of (drawing-refusal xs) (too-short (5 * length (drawing-in xs .cables)) o)) (written-numbers r .refusal)
+    → Refused-as (first-of (drawing-refusal xs) (too-short (5 * section-records (drawing-in xs)) o)) (written-numbers r .refusal)
     (written-numbers r .count) o z
 unfolding Code-says coding-refusal
 code-turned-back xs r o z s = code-as-refused (coding-refusal xs o) (drawing-in xs) r o z s
@@ -82,7 +83,7 @@ put-untouched Accepted bytes o h = absurd (not-suc-le-zero h)
 put-untouched (Refused r) bytes o h = refl
 
 pub decode-turned-back : (bs : List ℕ) (r : Written) (o z : List ℕ) → Decode-says bs r o z
-    → Refused-as (first-of (code-refusal bs) (too-short 72 o)) (written-numbers r .refusal) (written-numbers r .count) o z
+    → Refused-as (first-of (section-code-refusal bs) (too-short 72 o)) (written-numbers r .refusal) (written-numbers r .count) o z
 decode-turned-back bs r o z s =
     rw (← decode-checked-number bs o)
     (numbers-refused (checked-number (decode-checked bs o)) (length (decoded-bytes bs)) (written-numbers r) o z
@@ -91,11 +92,11 @@ decode-turned-back bs r o z s =
 
 -- THE LEAST TEST
 pub least-turned-back : (bs : List ℕ) (v : Verdict) → Least-says bs v
-    → Refused-as (code-refusal bs) (verdict-numbers v .refusal) (verdict-numbers v .count) [] []
+    → Refused-as (section-code-refusal bs) (verdict-numbers v .refusal) (verdict-numbers v .count) [] []
 least-turned-back bs v s = record {
   one = least-refusal bs v s;
-  uncounted = rw (← code-checked-number bs)
-      (go (code-checked bs) s);
+  uncounted = rw (← section-checked-number bs)
+      (go (section-code-checked bs) s);
   untouched = λ h. refl;
 }
   where
@@ -105,9 +106,10 @@ least-turned-back bs v s = record {
 
 -- COMPARING
 pub compare-turned-back : (xs ys : List ℕ) (r : Compared) → Compare-says xs ys r
-    → Refused-as (first-of (code-refusal xs) (code-refusal ys)) (compared-numbers r .refusal) (compared-numbers r .count) [] []
+    → Refused-as (first-of (section-code-refusal xs) (section-code-refusal ys)) (compared-numbers r .refusal) (compared-numbers r .count) [] []
 compare-turned-back xs ys r s =
-    numbers-refused (first-of (code-refusal xs) (code-refusal ys)) (compared-count (code-records xs) (code-records ys)) (compared-numbers r) [] []
+    numbers-refused (first-of (section-code-refusal xs) (section-code-refusal ys)) (compared-count (code-records xs) (code-records ys))
+    (compared-numbers r) [] []
     (compare-says-numbers xs ys r s) (λ h. refl)
 
 -- MATCHING

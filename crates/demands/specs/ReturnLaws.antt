@@ -1,13 +1,18 @@
 -- The number that a call returns tells its refusal and its count: no count reaches 2^32. Rests on what each call says.
 -- Assumes nothing.
 use mathlib.Core.Path.{_≡_, refl}
+use mathlib.Core.Bool.{true, _&&_}
 use mathlib.Core.List.{List}
 use Prim.Native.Nat.{ℕ, zero, suc, _≤_}
 use native.Mathlib.Omega.{arith}
-use lib.Dec.{lit≤}
+use lib.Dec.{leb, eqb, lit≤}
+use lib.ListN.{length}
+use borrow.Author.Tests.{leb-true}
+use Rattle.laws.specs.Tests.{and-split}
 use Rattle.graphs.specs.Drawing.{Drawing, drawing-in}
+use Rattle.codes.specs.Code.{Rec}
+use Rattle.codes.specs.SectionCode.{records-refusal, records-good}
 use Rattle.codes.specs.CodeBytes.{rec-bytes-length}
-use Rattle.codes.specs.ReadRows.{good-from-test}
 use Rattle.records.specs.declared.refusal.Checked.{Checked}
 use Rattle.records.specs.declared.refusal.Checked.the-variants.{Accepted, Refused}
 use Rattle.code_checks.specs.declared.answer.Written.{Written}
@@ -18,7 +23,7 @@ use Rattle.code_checks.specs.declared.answer.Compared.{Compared}
 use Rattle.code_checks.specs.declared.answer.Compared.the-variants as compared
 use Rattle.code_checks.specs.Answers.{Numbers, written-numbers, verdict-numbers, compared-numbers, put-answer}
 use Rattle.records.specs.Refusals.{or-else}
-use Rattle.readings.specs.Readings.{code-checked}
+use Rattle.code_checks.specs.SectionChecks.{section-code-checked}
 use Rattle.coding.specs.CodeDrawing.{coding-refusal, Code-as, Code-says}
 use Rattle.decoding.specs.Decoding.{decode-checked, decoded-bytes}
 use Rattle.decoding.specs.DecodingLaws.{decoded-length}
@@ -53,10 +58,16 @@ written-refusal : (r : Written) → written-numbers r .refusal ≤ 15
 written-refusal (written.Bytes n) = lit≤ tt
 written-refusal (written.Refused x) = number-small x
 
+code-few : (rs : List Rec) → records-good rs ≡ true → length rs ≤ 20
+unfolding records-good
+code-few rs g =
+    let size = and-split (leb 1 (length rs) && leb (length rs) 20) (eqb (records-refusal rs) 0) g .0 in
+    leb-true (length rs) 20 (and-split (leb 1 (length rs)) (leb (length rs) 20) size .1)
+
 code-as-count : (n : ℕ) (d : Drawing) (r : Written) (o z : List ℕ) → Code-as n d r o z → written-numbers r .count ≤ 100
 unfolding Code-as
 code-as-count zero d r o z s =
-    rw (s .answer) (omega (arith, rec-bytes-length (s .code), good-from-test (s .code) (s .least .code .good) .most))
+    rw (s .answer) (omega (arith, rec-bytes-length (s .code), code-few (s .code) (s .least .code .good)))
 code-as-count (suc n) d r o z s = rw (s .answer) (lit≤ tt)
 
 pub code-tells : {xs : List ℕ} {x : ℕ} {o z : List ℕ} (c : Code-returns xs x o z) → Tells-numbers x (written-numbers (c .answer))
@@ -72,7 +83,7 @@ first-accepted (Refused r) b e = e
 decode-count : (bs o : List ℕ) (c : Checked) → decode-checked bs o ≡ c → written-numbers (put-answer c (decoded-bytes bs)) .count ≤ 100
 unfolding decode-checked
 decode-count bs o Accepted e =
-    omega (arith, decoded-length bs o (first-accepted (code-checked bs) _ e))
+    omega (arith, decoded-length bs o (first-accepted (section-code-checked bs) _ e))
 decode-count bs o (Refused r) e = lit≤ tt
 
 pub decode-tells : {bs : List ℕ} {x : ℕ} {o z : List ℕ} (c : Decode-returns bs x o z) → Tells-numbers x (written-numbers (c .answer))

@@ -5,6 +5,7 @@ use mathlib.Core.List.{List}
 use Prim.Native.Nat.{ℕ, _*_, _≤_}
 use lib.ListN.{length}
 use Rattle.graphs.specs.Drawing.{drawing-in, accepted}
+use Rattle.codes.specs.SectionCode.{section-records}
 use Rattle.code_checks.specs.declared.answer.Written.{Written}
 use Rattle.coding.specs.CodeDrawing.{Code-says}
 use Rattle.matching.specs.declared.answer.Sameness.{Sameness}
@@ -15,7 +16,7 @@ use Rattle.demands.specs.Terms.{written-bytes}
 use Rattle.demands.specs.Coding.{accepted-refusal, equal-bytes-exactly-same}
 
 module _ (xs ys : List ℕ) (a : accepted xs ≡ true) (b : accepted ys ≡ true)
-    (o p : List ℕ) (room : 5 * length (drawing-in xs .cables) ≤ length o) (space : 5 * length (drawing-in ys .cables) ≤ length p)
+    (o p : List ℕ) (room : 5 * section-records (drawing-in xs) ≤ length o) (space : 5 * section-records (drawing-in ys) ≤ length p)
     (z w : List ℕ) (r s : Written) (first : Code-says xs r o z) (second : Code-says ys s p w) where
   pub yes-exactly-equal-bytes :
       (t : Sameness) → Same-says xs ys t

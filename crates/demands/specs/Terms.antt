@@ -9,13 +9,14 @@ use lib.Dec.{ltb}
 use lib.ListN.{length, getD, take, drop, replicate}
 use denote.Ref.{RefT, now}
 use Rattle.laws.specs.Rows.{row}
-use Rattle.graphs.specs.Drawing.{Drawing, devices, drawing-in, drawing-bytes}
+use Rattle.graphs.specs.Drawing.{Drawing, devices, kind, drawing-in, drawing-bytes}
 use Rattle.graphs.specs.Map.{map-before}
-use Rattle.graphs.specs.Graph.{Pattern}
+use Rattle.graphs.specs.Graph.{Section}
 use Rattle.graphs.specs.Embedding.{Embedding}
 use Rattle.graphs.specs.Isomorphisms.{Demand-map}
 use Rattle.graphs.specs.Survey.{survey, length-refusal, bytes-refusal, survey-refusal, count-true}
-use Rattle.codes.specs.Code.{Rec, recs-in, decoded, Code-of, Least, rec-before, before}
+use Rattle.codes.specs.Code.{Rec, recs-in, rec-before, before}
+use Rattle.codes.specs.SectionCode.{section-of, Section-code, Least-section}
 use Rattle.growth.specs.Catalogue.{Entry, entry, Catalogue, entry-bytes, all-bytes}
 use Rattle.records.specs.declared.refusal.Refusal.the-variants.{OutputLength}
 use Rattle.code_checks.specs.declared.answer.Written.{Written}
@@ -115,9 +116,9 @@ Mapped d e = (f : List ℕ) × Demand-map d e f
 
 -- DECODED: what is written is the record of the drawing that the code describes, and lent bytes past it keep their content
 pub record Drawn (rs : List Rec) (r : Written) (out out-now : List ℕ) : Type 0 where
-  pub bytes : written-bytes r out-now ≡ drawing-bytes (decoded rs)
-  pub drawing : drawing-in (written-bytes r out-now) ≡ decoded rs
-  pub output : out-now ≡ in-front (drawing-bytes (decoded rs)) out
+  pub bytes : written-bytes r out-now ≡ drawing-bytes (section-of rs)
+  pub drawing : drawing-in (written-bytes r out-now) ≡ section-of rs
+  pub output : out-now ≡ in-front (drawing-bytes (section-of rs)) out
 
 -- THE ORDER OF CODES of Yan and Han, clause by clause
 pub record Order-clauses : Type 0 where
@@ -150,6 +151,18 @@ pub record Least-map-written (p d : Drawing) (n : ℕ) (out out-now : List ℕ) 
   pub devices-all : n ≡ devices p
   pub output : out-now ≡ in-front map out
 
+-- THE MAP OF A LONE DEVICE of kind k: the lowest device of its kind, in one byte
+pub record Lone-mapped (k : ℕ) (d : Drawing) (out out-now : List ℕ) : Type 0 where
+  pub device : ℕ
+  pub there : device < devices d
+  pub kind-is : kind d device ≡ k
+  pub lowest : (u : ℕ) → u < device → kind d u ≡ k → ⊥
+  pub output : out-now ≡ in-front (device ∷ []) out
+
+-- its code, as bytes
+abbrev pub lone-five : (kind : ℕ) → List ℕ
+lone-five k = 0 ∷ 0 ∷ k ∷ 0 ∷ k ∷ []
+
 -- SUPPORT: n of the drawings contain p. A mark for each drawing says whether it does, and n of the marks say yes.
 pub record Supported (p : Drawing) (ds : List Drawing) (n : ℕ) : Type 0 where
   pub marks : List Bool
@@ -165,27 +178,29 @@ entry-of bs = entry (getD bs 1 0) (recs-in (getD bs 0 0) (drop 2 bs))
 unfoldable pub entry-in : (k : ℕ) → (output : List ℕ) → Entry
 entry-in k z = entry-of (row 42 k z)
 
--- An entry is one for a pattern if the records that its number of cables counts are a DFS code of that pattern.
+-- An entry is one for a section if the records that its number of cables counts are a code of that section.
 abbrev pub Entry-for : (p : Drawing) → (output : List ℕ) → (k : ℕ) → Type 0
-Entry-for p z k = Code-of p (entry-in k z .code)
+Entry-for p z k = Section-code p (entry-in k z .code)
 
--- A WHOLE CATALOGUE of n entries in the lent bytes z, which were o before the call. A pattern is a simple graph of 2 to 10 devices
--- and 1 to 20 cables in which a walk joins every two devices (`Pattern`).
+-- A WHOLE CATALOGUE of n entries in the lent bytes z, which were o before the call. A section is a simple graph of 1 to 10 devices and
+-- at most 20 cables in which a walk joins every two devices (`Section`); a pattern is one of 1 to l cables.
 pub record Whole-catalogue (bs : List ℕ) (s l n : ℕ) (o z : List ℕ) : Type 0 where
-  -- a pattern of 1 to l cables that at least s drawings contain has an entry
+  -- a section of 1 to l cables that at least s drawings contain has an entry
   pub there :
-      (p : Drawing) → Pattern p → length (p .cables) ≤ l → (m : ℕ) → Supported p (survey bs) m → s ≤ m
+      (p : Drawing) → Section p → 1 ≤ length (p .cables) → length (p .cables) ≤ l → (m : ℕ) → Supported p (survey bs) m → s ≤ m
       → (k : ℕ) × (k < n) × Entry-for p z k
-  -- and no other has
-  pub frequent : (p : Drawing) → Pattern p → (k : ℕ) → k < n → Entry-for p z k → (length (p .cables) ≤ l) × (s ≤ entry-in k z .support)
+  -- and no other has, so none without a cable
+  pub frequent :
+      (p : Drawing) → Section p → (k : ℕ) → k < n → Entry-for p z k
+      → (1 ≤ length (p .cables)) × (length (p .cables) ≤ l) × (s ≤ entry-in k z .support)
   -- no more than one
-  pub once : (p : Drawing) → Pattern p → (j k : ℕ) → j < n → k < n → Entry-for p z j → Entry-for p z k → j ≡ k
+  pub once : (p : Drawing) → Section p → (j k : ℕ) → j < n → k < n → Entry-for p z j → Entry-for p z k → j ≡ k
   -- with its least code and its support
   pub least :
-      (p : Drawing) → Pattern p → (k : ℕ) → k < n → Entry-for p z k
-      → Least p (entry-in k z .code) × Supported p (survey bs) (entry-in k z .support)
-  -- there is no entry that is one for no pattern
-  pub sound : (k : ℕ) → k < n → (p : Drawing) × Pattern p × Entry-for p z k
+      (p : Drawing) → Section p → (k : ℕ) → k < n → Entry-for p z k
+      → Least-section p (entry-in k z .code) × Supported p (survey bs) (entry-in k z .support)
+  -- there is no entry that is one for no section
+  pub sound : (k : ℕ) → k < n → (p : Drawing) × Section p × Entry-for p z k
   -- codes rise
   pub rise : (j k : ℕ) → j < k → k < n → before (entry-in j z .code) (entry-in k z .code) ≡ true
   -- the bytes are those of the entries, and what they were past the last one

@@ -3,6 +3,7 @@
 use mathlib.Core.Path.{_≡_, refl, sym, ap, subst, _∙_}
 use mathlib.Core.Bool.{Bool, true, false}
 use mathlib.Core.List.{List, [], _∷_, map}
+use mathlib.Core.Logic.{_⊎_, inl, inr}
 use Prim.Native.Nat.{ℕ, zero, suc, _*_, _≤_, _<_}
 use native.Mathlib.Nat.{not-suc-le-zero, le-of-suc-le-suc}
 use native.Mathlib.Omega.{arith}
@@ -10,7 +11,7 @@ use lib.Dec.{ltb, eqb}
 use lib.ListN.{length, getD, drop, length-append, length-drop, length-map, List·getD-map}
 use lib.Seq.{drop-at}
 use borrow.Author.Tests.{ltb-true, ltb-false, eqb-true}
-use Rattle.laws.specs.Tests.{Three, less, same, more, compare-numbers}
+use Rattle.laws.specs.Tests.{Three, less, same, more, compare-numbers, true-and-false}
 use Rattle.laws.specs.Lists.{Mem, mem-at, place}
 use Rattle.laws.specs.Rising.{Rises, rises-head, rises-tail}
 use Rattle.laws.specs.Rows.{row}
@@ -18,7 +19,8 @@ use Rattle.graphs.specs.Drawing.{Drawing, is-pattern}
 use Rattle.graphs.specs.Map.{Same}
 use Rattle.graphs.specs.Survey as surveys
 use Rattle.graphs.specs.Survey.{survey, survey-refusal, support}
-use Rattle.graphs.specs.Graph.{Simple, Pattern}
+use Rattle.graphs.specs.Graph.{Simple, Section, Pattern, lone-drawing}
+use Rattle.graphs.specs.Sections.{pattern-section, section-pattern, lone-or-pattern}
 use Rattle.graphs.specs.Patterns.{pattern-from-test, pattern-to-test}
 use Rattle.graphs.specs.Containment.{same-support}
 use Rattle.codes.specs.Code.{Rec, Code-of, Least, before, kinds-before}
@@ -26,6 +28,9 @@ use Rattle.codes.specs.CodeOrder.{kinds-order, before-strict}
 use Rattle.codes.specs.FullCode.{coded-from-test, coded-length, least-unique}
 use Rattle.codes.specs.LeastCode.{least-code-there}
 use Rattle.codes.specs.CodesTell.{code-along, code-makes-same}
+use Rattle.codes.specs.ReadRows.{good-from-test}
+use Rattle.codes.specs.SectionCode.{lone-code, lone-row, Section-code}
+use Rattle.codes.specs.SectionCodes.{rows-not-lone, lone-code-row, lone-only, cabled-code, pattern-code, least-pattern}
 use Rattle.growth.specs.Catalogue.{Entry, entry, Frequent-entry, Catalogue, entry-bytes, all-bytes}
 use Rattle.growth.specs.Settings.{accepted-settings}
 use Rattle.records.specs.declared.refusal.Refusal.{Refusal}
@@ -91,6 +96,16 @@ refused-number : (r : Refusal) (d : ℕ) → catalogued-refusal (Refused r d) .n
 unfolding surveys.refusal
 refused-number r d = refl
 
+-- where entries are answered, settings and survey are accepted
+pub entries-accepted : (bs : List ℕ) (s l n : ℕ) (o z : List ℕ) → Catalogue-says bs s l (Entries n) o z → survey-refusal bs s l .number ≡ 0
+entries-accepted bs s l n o z says = go (survey-refusal bs s l .number) refl says
+  where
+    go :
+        (m : ℕ) → survey-refusal bs s l .number ≡ m → Catalogue-as m (survey-refusal bs s l) (survey bs) s l (Entries n) o z
+        → survey-refusal bs s l .number ≡ 0
+    go zero e c = e
+    go (suc m) e (r, w) = absurd (omega (arith, sym (entries-number n) ∙ ap (λ (f : surveys.Refusal). f .number) r ∙ e))
+
 -- A CATALOGUE THAT IS WRITTEN TO ITS END
 record Finished (bs : List ℕ) (s l n : ℕ) (o z : List ℕ) : Type 0 where
   es : List Entry
@@ -143,8 +158,20 @@ module _ (bs : List ℕ) (s l n : ℕ) (o z : List ℕ) (f : Finished bs s l n o
   entry-frequent : (k : ℕ) → k < n → Frequent-entry kinds-before (survey bs) s l (entry-in k z)
   entry-frequent k h = f .catalogue .sound (entry-in k z) (rw (is-entry k h) (mem-at none (f .es) k (omega (arith, f .count))))
 
-  says-of : (p : Drawing) → is-pattern p ≡ true → (k : ℕ) → k < n → Entry-for p z k → Entry-says (survey bs) s l (entry-in k z) p
-  says-of p i k h c = entry-says (survey bs) s l (entry-in k z) (entry-frequent k h) p i c
+  -- a section that an entry is one for has a cable
+  entry-pattern : (p : Drawing) → Section p → (k : ℕ) → k < n → Entry-for p z k → Pattern p
+  entry-pattern p i k h c = go (lone-or-pattern p i)
+    where
+      go : ((j : ℕ) × (p ≡ lone-drawing j)) ⊎ Pattern p → Pattern p
+      go (inr w) = w
+      go (inl (j, e)) =
+          let code = entry-in k z .code in
+          let is : code ≡ lone-code j = lone-only j code (subst (λ (d : Drawing). Section-code d code) e c) in
+          let good = good-from-test code (entry-frequent k h .least .code .good) .accepted in
+          absurd (true-and-false (ap lone-row is ∙ lone-code-row j) (rows-not-lone code good))
+
+  says-of : (p : Drawing) → Pattern p → (k : ℕ) → k < n → Entry-for p z k → Entry-says (survey bs) s l (entry-in k z) p
+  says-of p i k h c = entry-says (survey bs) s l (entry-in k z) (entry-frequent k h) p (pattern-to-test p i) (pattern-code i c)
 
   rise : (j k : ℕ) → j < k → k < n → before (entry-in j z .code) (entry-in k z .code) ≡ true
   rise j k h g =
@@ -157,14 +184,14 @@ module _ (bs : List ℕ) (s l n : ℕ) (o z : List ℕ) (f : Finished bs s l n o
       code-at : (k : ℕ) → getD codes k [] ≡ getD (f .es) k none .code
       code-at k = List·getD-map (λ (e : Entry). e .code) (f .es) k none
 
-  there : (p : Drawing) → is-pattern p ≡ true → length (p .cables) ≤ l → s ≤ support p (survey bs) → (k : ℕ) × (k < n) × Entry-for p z k
+  there : (p : Drawing) → Pattern p → length (p .cables) ≤ l → s ≤ support p (survey bs) → (k : ℕ) × (k < n) × Entry-for p z k
   there p i h g =
-      let t = least-code-there kinds-before kinds-order p (pattern-from-test p i) in
-      let w = place none (f .catalogue .whole p (t .0) i h g (t .1)) in
+      let t = least-code-there kinds-before kinds-order p i in
+      let w = place none (f .catalogue .whole p (t .0) (pattern-to-test p i) h g (t .1)) in
       let below : w .i < n = omega (arith, w .below, f .count) in
-      (w .i, below, rw (is-entry (w .i) below, w .is) (t .1 .code))
+      (w .i, below, rw (is-entry (w .i) below, w .is) (cabled-code (t .1 .code)))
 
-  once : (p : Drawing) → is-pattern p ≡ true → (j k : ℕ) → j < n → k < n → Entry-for p z j → Entry-for p z k → j ≡ k
+  once : (p : Drawing) → Pattern p → (j k : ℕ) → j < n → k < n → Entry-for p z j → Entry-for p z k → j ≡ k
   once p i j k a b c d = go (compare-numbers j k)
     where
       same-code : entry-in j z .code ≡ entry-in k z .code
@@ -195,14 +222,22 @@ module _ (bs : List ℕ) (s l n : ℕ) (o z : List ℕ) (f : Finished bs s l n o
   demanded : Whole-catalogue bs s l n o z
   demanded =
       record {
-        there = λ p i h m q g. there p (pattern-to-test p i) h (omega (arith, supported-is p i (survey bs) m q));
+        there = λ p i some h m q g.
+            let w = section-pattern i some in there p w h (omega (arith, supported-is p w (survey bs) m q));
         frequent = λ p i k h c.
-            let t = says-of p (pattern-to-test p i) k h c in (t .size, omega (arith, t .frequent, t .support-is));
-        once = λ p i. once p (pattern-to-test p i);
+            let w = entry-pattern p i k h c in
+            let t = says-of p w k h c in
+            (w .cables-low, t .size, omega (arith, t .frequent, t .support-is));
+        once = λ p i j k a b c d. once p (entry-pattern p i j a c) j k a b c d;
         least = λ p i k h c.
-            let t = says-of p (pattern-to-test p i) k h c in
-            (t .least, subst (Supported p (survey bs)) (sym (t .support-is)) (supported p i (survey bs)));
-        sound = λ k h. let t = entry-frequent k h in (t .pattern, pattern-from-test (t .pattern) (t .is-one), t .least .code);
+            let w = entry-pattern p i k h c in
+            let t = says-of p w k h c in (
+              least-pattern kinds-before w (t .least),
+              subst (Supported p (survey bs)) (sym (t .support-is)) (supported p w (survey bs)),
+            );
+        sound = λ k h.
+            let t = entry-frequent k h in
+            (t .pattern, pattern-section (pattern-from-test (t .pattern) (t .is-one)), cabled-code (t .least .code));
         rise = rise;
         bytes = λ k h. ap (row 42 k) (f .output) ∙ bytes-at (f .es) few rest none k (omega (arith, f .count)) ∙ ap entry-bytes (sym (is-entry k h));
         room = omega (arith, f .count, f .room, output-size);

@@ -89,6 +89,10 @@ reached (suc n) cs vs = reached n cs (spread cs vs)
 unfoldable pub connected : Drawing → Bool
 connected d = eqb (length (reached (devices d) (d .cables) (0 ∷ []))) (devices d)
 
+-- one device has no cable, more have 1 to 20
+unfoldable pub cables-fit : (n m : ℕ) → Bool
+cables-fit n m = cond (eqb n 1) (eqb m 0) (leb 1 m && leb m 20)
+
 -- THE REFUSAL of a record: 1 to 8, or 0 where it is accepted
 unfoldable pub drawing-refusal : List ℕ → ℕ
 drawing-refusal bs =
@@ -96,8 +100,8 @@ drawing-refusal bs =
     let m = getD bs 1 0 in
     let d = drawing-in bs in
     cond (not (eqb (length bs) 72)) 1
-    (cond (not (leb 2 n && leb n 10)) 2
-    (cond (not (leb 1 m && leb m 20)) 3
+    (cond (not (leb 1 n && leb n 10)) 2
+    (cond (not (cables-fit n m)) 3
     (cond (not (eqb (cable-refusal n [] (d .cables)) 0)) (cable-refusal n [] (d .cables))
     (cond (not (unused-zero bs)) 7 (cond (connected d) 0 8)))))
 
@@ -108,7 +112,7 @@ byte-list (x ∷ xs) = ltb x 256 && byte-list xs
 unfoldable pub accepted : List ℕ → Bool
 accepted bs = byte-list bs && eqb (drawing-refusal bs) 0
 
--- A PATTERN: an accepted drawing, whatever its device numbers and the order of its cables
+-- A PATTERN: an accepted drawing that has a cable, whatever its device numbers and the order of its cables
 unfoldable pub is-pattern : Drawing → Bool
 is-pattern p =
     ((leb 2 (devices p) && leb (devices p) 10) && (leb 1 (length (p .cables)) && leb (length (p .cables)) 20))

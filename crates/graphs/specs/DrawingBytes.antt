@@ -34,16 +34,16 @@ use Rattle.graphs.specs.Drawing.{
   cable-bytes,
   drawing-bytes,
 }
-use Rattle.graphs.specs.Drawing.{all-zero, unused-zero, drawing-refusal, byte-list, is-pattern}
+use Rattle.graphs.specs.Drawing.{all-zero, unused-zero, drawing-refusal, byte-list}
 use Rattle.graphs.specs.Cables.{Has, has-flip, has-first}
-use Rattle.graphs.specs.Graph.{Pattern}
+use Rattle.graphs.specs.Graph.{Section}
 use Rattle.graphs.specs.Simple.{simple-to-test}
 use Rattle.graphs.specs.Connected.{connected-to-test}
+use Rattle.graphs.specs.Sections.{fit-to-test, section-fit}
 use Rattle.graphs.specs.Patterns.{
   Accepted-parts,
   accepted-parts,
   refusal-zero,
-  pattern-from-test,
   byte-list-append,
 }
 
@@ -212,32 +212,29 @@ drawing-bytes-in bs e =
     go (x ∷ []) z = absurd (omega arith)
     go (x ∷ y ∷ xs) z = ap {B = List ℕ} (λ ys. x ∷ y ∷ ys) (take-append-drop 10 xs)
 
--- EVERY PATTERN HAS AN ACCEPTED RECORD
-module _ (d : Drawing) (h : is-pattern d ≡ true) where
-  pattern : Pattern d
-  pattern = pattern-from-test d h
-
+-- EVERY SECTION HAS AN ACCEPTED RECORD
+module _ (d : Drawing) (section : Section d) where
   pub drawing-bytes-accepted : drawing-refusal (drawing-bytes d) ≡ 0
   drawing-bytes-accepted =
       refusal-zero (drawing-bytes d)
       (record {
         size = drawing-bytes-length d few thin;
-        devices-low = rw n (pattern .devices-low);
+        devices-low = rw n (section .devices-low);
         devices-high = rw n few;
-        cables-low = rw m (pattern .cables-low);
+        fitting = rw (n, m) (fit-to-test (devices d) (length (d .cables)) (section-fit d section));
         cables-high = rw m thin;
-        cables-good = rw (n, back) (simple-to-test d (pattern .simple));
+        cables-good = rw (n, back) (simple-to-test d (section .simple));
         unused = unused;
-        is-connected = rw back (connected-to-test d (pattern .simple .ends) (omega (arith, pattern .devices-low)) (pattern .connected));
+        is-connected = rw back (connected-to-test d (section .simple .ends) (omega (arith, section .devices-low)) (section .connected));
         device-count = rw (n, back);
         cable-count = rw (m, back);
       })
     where
       few : devices d ≤ 10
-      few = pattern .devices-high
+      few = section .devices-high
 
       thin : length (d .cables) ≤ 20
-      thin = pattern .cables-high
+      thin = section .cables-high
 
       -- its first two bytes
       n : getD (drawing-bytes d) 0 0 ≡ devices d
@@ -260,10 +257,10 @@ module _ (d : Drawing) (h : is-pattern d ≡ true) where
   drawing-bytes-byte-list kinds = rw drawing-bytes-parts counted
     where
       kind-bytes : byte-list (kind-part d) ≡ true
-      kind-bytes = unfold kind-part in byte-list-append (d .kinds) _ (pattern .bytes) (zeros-byte-list (10 - devices d))
+      kind-bytes = unfold kind-part in byte-list-append (d .kinds) _ (section .bytes) (zeros-byte-list (10 - devices d))
 
       ends : (u v k : ℕ) → Has u v k (d .cables) → u < 256
-      ends u v k g = omega (arith, pattern .devices-high, pattern .simple .ends u v k g)
+      ends u v k g = omega (arith, section .devices-high, section .simple .ends u v k g)
 
       cables : byte-list (cable-part d) ≡ true
       cables =
@@ -273,6 +270,6 @@ module _ (d : Drawing) (h : is-pattern d ≡ true) where
       counted : byte-list (devices d ∷ length (d .cables) ∷ (kind-part d ++ cable-part d)) ≡ true
       counted =
           unfold byte-list in
-          and-both (lt-ltb (devices d) 256 (omega (arith, pattern .devices-high)))
-          (and-both (lt-ltb (length (d .cables)) 256 (omega (arith, pattern .cables-high)))
+          and-both (lt-ltb (devices d) 256 (omega (arith, section .devices-high)))
+          (and-both (lt-ltb (length (d .cables)) 256 (omega (arith, section .cables-high)))
           (byte-list-append (kind-part d) (cable-part d) kind-bytes cables))

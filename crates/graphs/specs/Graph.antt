@@ -1,7 +1,7 @@
 -- What an accepted drawing is, as relations: a simple labelled graph in which a walk joins every two devices.
 -- Assumes nothing: these are definitions.
 use mathlib.Core.Path.{_≡_}
-use mathlib.Core.Bool.{Bool, true}
+use mathlib.Core.Bool.{true}
 use mathlib.Core.List.{List, [], _∷_}
 use Prim.Native.Nat.{ℕ, _≤_, _<_}
 use lib.ListN.{length}
@@ -29,7 +29,20 @@ pub data Walk (cs : List Cable) (u : ℕ) : ℕ → Type 0 where
 abbrev pub Connected : Drawing → Type 0
 Connected d = (u v : ℕ) → u < devices d → v < devices d → Walk (d .cables) u v
 
--- a pattern, part by part
+-- a section, part by part: the graph of an accepted drawing
+pub record Section (d : Drawing) : Type 0 where
+  pub devices-low : 1 ≤ devices d
+  pub devices-high : devices d ≤ 10
+  pub cables-high : length (d .cables) ≤ 20
+  pub bytes : byte-list (d .kinds) ≡ true
+  pub simple : Simple d
+  pub connected : Connected d
+
+-- a lone device: a vertex without an edge
+abbrev pub lone-drawing : (kind : ℕ) → Drawing
+lone-drawing k = record { kinds = k ∷ []; cables = [] }
+
+-- a pattern, part by part: a section that has a cable, and so two devices
 pub record Pattern (p : Drawing) : Type 0 where
   pub devices-low : 2 ≤ devices p
   pub devices-high : devices p ≤ 10

@@ -17,6 +17,7 @@ pub mod LeastMap
 pub mod Containment
 pub mod ImageMarks
 pub mod Connected
+pub mod Sections
 pub mod Patterns
 pub mod DrawingBytes
 pub mod AcceptedDrawing

@@ -1,7 +1,7 @@
--- The test `is-pattern` is the record `Pattern`, and an accepted drawing record reads as a pattern; lists of bytes.
--- Rests on Simple and Connected. Assumes nothing.
+-- The test `is-pattern` is the record `Pattern`, and an accepted drawing record reads as a section; lists of bytes.
+-- Rests on Simple, Connected and Sections. Assumes nothing.
 use mathlib.Core.Path.{_≡_, refl, sym, _∙_}
-use mathlib.Core.Bool.{Bool, true, false, _&&_, not, cond}
+use mathlib.Core.Bool.{true, _&&_}
 use mathlib.Core.List.{List, [], _∷_, _++_}
 use Prim.Native.Nat.{ℕ, zero, suc, _+_, _≤_, _<_}
 use native.Mathlib.Nat.{not-suc-le-zero, le-of-suc-le-suc}
@@ -13,11 +13,12 @@ use lib.Seq.{length-take-le, getD-take, getD-drop}
 use Rattle.laws.specs.Lists.{getD-default}
 use Rattle.laws.specs.Tests.{and-split, and-both, passes, passes-last}
 use Rattle.laws.specs.Rows.{rows, rows-length}
-use Rattle.graphs.specs.Drawing.{Drawing, devices, kind, cable-in, cables-in, drawing-in, byte-list, is-pattern}
+use Rattle.graphs.specs.Drawing.{Drawing, devices, kind, cable-in, cables-in, cables-fit, drawing-in, byte-list, is-pattern}
 use Rattle.graphs.specs.Drawing.{cable-refusal, unused-zero, connected, drawing-refusal, accepted}
-use Rattle.graphs.specs.Graph.{Pattern}
+use Rattle.graphs.specs.Graph.{Section, Pattern}
 use Rattle.graphs.specs.Simple.{simple-from-test, simple-to-test}
 use Rattle.graphs.specs.Connected.{connected-from-test, connected-to-test}
+use Rattle.graphs.specs.Sections.{fit-from-test, fit-most}
 
 -- LISTS OF BYTES
 pub byte-list-append : (xs ys : List ℕ) → byte-list xs ≡ true → byte-list ys ≡ true → byte-list (xs ++ ys) ≡ true
@@ -50,7 +51,7 @@ unfolding byte-list
 byte-list-from [] h = refl
 byte-list-from (x ∷ xs) h = and-both (lt-ltb x 256 (h 0 (omega arith))) (byte-list-from xs (λ i l. h (suc i) (omega arith)))
 
--- A PATTERN: an accepted drawing, whatever its device numbers and the order of its cables
+-- A PATTERN: an accepted drawing that has a cable, whatever its device numbers and the order of its cables
 pub pattern-from-test : (p : Drawing) → is-pattern p ≡ true → Pattern p
 unfolding is-pattern
 pattern-from-test p h =
@@ -89,9 +90,9 @@ pattern-to-test p w =
 -- AN ACCEPTED RECORD, part by part
 pub record Accepted-parts (bs : List ℕ) : Type 0 where
   pub size : length bs ≡ 72
-  pub devices-low : 2 ≤ getD bs 0 0
+  pub devices-low : 1 ≤ getD bs 0 0
   pub devices-high : getD bs 0 0 ≤ 10
-  pub cables-low : 1 ≤ getD bs 1 0
+  pub fitting : cables-fit (getD bs 0 0) (getD bs 1 0) ≡ true
   pub cables-high : getD bs 1 0 ≤ 20
   pub cables-good : cable-refusal (getD bs 0 0) [] (drawing-in bs .cables) ≡ 0
   pub unused : unused-zero bs ≡ true
@@ -112,21 +113,20 @@ accepted-parts bs e =
     let m = getD bs 1 0 in
     let d = drawing-in bs in
     let whole = passes (eqb (length bs) 72) 1 _ (λ x y. omega arith) e in
-    let few = passes (leb 2 n && leb n 10) 2 _ (λ x y. omega arith) (whole .1) in
-    let thin = passes (leb 1 m && leb m 20) 3 _ (λ x y. omega arith) (few .1) in
+    let few = passes (leb 1 n && leb n 10) 2 _ (λ x y. omega arith) (whole .1) in
+    let thin = passes (cables-fit n m) 3 _ (λ x y. omega arith) (few .1) in
     let r = cable-refusal n [] (d .cables) in
     let good = passes (eqb r 0) r _ (eqb-false r 0) (thin .1) in
     let rest = passes (unused-zero bs) 7 _ (λ x y. omega arith) (good .1) in
-    let ns = and-split (leb 2 n) (leb n 10) (few .0) in
-    let ms = and-split (leb 1 m) (leb m 20) (thin .0) in
+    let ns = and-split (leb 1 n) (leb n 10) (few .0) in
     let size : length bs ≡ 72 = eqb-true (length bs) 72 (whole .0) in
     let high : getD bs 0 0 ≤ 10 = leb-true n 10 (ns .1) in
     record {
       size = size;
-      devices-low = leb-true 2 n (ns .0);
+      devices-low = leb-true 1 n (ns .0);
       devices-high = high;
-      cables-low = leb-true 1 m (ms .0);
-      cables-high = leb-true m 20 (ms .1);
+      fitting = thin .0;
+      cables-high = fit-most (fit-from-test n m (thin .0));
       cables-good = eqb-true r 0 (good .0);
       unused = rest .0;
       is-connected = passes-last (connected d) 8 (λ x. omega arith) (rest .1);
@@ -139,10 +139,9 @@ unfolding drawing-refusal
 refusal-zero bs a =
     rw (
       eq-eqb (length bs) 72 (a .size),
-      le-leb 2 n (a .devices-low),
+      le-leb 1 n (a .devices-low),
       le-leb n 10 (a .devices-high),
-      le-leb 1 m (a .cables-low),
-      le-leb m 20 (a .cables-high),
+      a .fitting,
       a .cables-good,
       a .unused,
       a .is-connected,
@@ -165,28 +164,27 @@ module _ (bs : List ℕ) (ok : drawing-refusal bs ≡ 0) (v : ℕ) (h : v < devi
       getD-default bs (2 + v) 0 256 kind-place
       ∙ sym (getD-take (getD bs 0 0) (drop 2 bs) v 256 (omega (arith, accepted-parts bs ok .device-count)) ∙ getD-drop 2 bs v 256)
 
--- AN ACCEPTED RECORD whose device kinds are bytes is a pattern, and so are accepted bytes
-pub kinds-pattern : (bs : List ℕ) → drawing-refusal bs ≡ 0 → byte-list (drawing-in bs .kinds) ≡ true → Pattern (drawing-in bs)
-kinds-pattern bs e kinds = go (accepted-parts bs e)
+-- AN ACCEPTED RECORD whose device kinds are bytes is a section, and so are accepted bytes
+pub kinds-section : (bs : List ℕ) → drawing-refusal bs ≡ 0 → byte-list (drawing-in bs .kinds) ≡ true → Section (drawing-in bs)
+kinds-section bs e kinds = go (accepted-parts bs e)
   where
-    go : Accepted-parts bs → Pattern (drawing-in bs)
+    go : Accepted-parts bs → Section (drawing-in bs)
     go a =
         let s = simple-from-test (drawing-in bs) (rw (a .device-count) (a .cables-good)) in
         record {
           devices-low = omega (arith, a .device-count, a .devices-low);
           devices-high = omega (arith, a .device-count, a .devices-high);
-          cables-low = omega (arith, a .cable-count, a .cables-low);
           cables-high = omega (arith, a .cable-count, a .cables-high);
           bytes = kinds;
           simple = s;
           connected = connected-from-test (drawing-in bs) (s .ends) (omega (arith, a .device-count, a .devices-low)) (a .is-connected);
         }
 
-pub accepted-pattern : (bs : List ℕ) → accepted bs ≡ true → Pattern (drawing-in bs)
+pub accepted-section : (bs : List ℕ) → accepted bs ≡ true → Section (drawing-in bs)
 unfolding accepted
-accepted-pattern bs h =
+accepted-section bs h =
     let s = and-split (byte-list bs) (eqb (drawing-refusal bs) 0) h in
-    kinds-pattern bs (eqb-true (drawing-refusal bs) 0 (s .1)) (kinds (s .0))
+    kinds-section bs (eqb-true (drawing-refusal bs) 0 (s .1)) (kinds (s .0))
   where
     kinds : byte-list bs ≡ true → byte-list (drawing-in bs .kinds) ≡ true
     kinds p = unfold drawing-in in byte-list-take (getD bs 0 0) (drop 2 bs) (byte-list-drop 2 bs p)

@@ -20,7 +20,7 @@ use Rattle.growth.specs.Growth.{Listed-by, listed-none}
 use Rattle.growth.specs.Frequent.{Frequent}
 use Rattle.growth.specs.Places.{Ranks, record-at, record-in-row, cell-number, candidate-of}
 use Rattle.growth.specs.CellLaws.{candidate-place, candidate-cell, cell-number-below}
-use Rattle.growth.specs.CountingExtensions.{All-patterns}
+use Rattle.growth.specs.CountingExtensions.{All-sections}
 use Rattle.growth.specs.Counted.{Extending, rows-extending, first-extending, Candidate, candidate-at, candidate-pattern}
 use Rattle.growth.specs.ListedBy.{place-in, chosen-places, chosen-rise}
 use Rattle.growth.specs.Output.{Ahead}
@@ -29,7 +29,7 @@ use Rattle.growing.specs.declared.grow.Growth.{Growth}
 use Rattle.growing.specs.declared.grow.Growth.the-variants.{To, Full}
 use Rattle.growing.specs.declared.grow.Settings.{Settings}
 use Rattle.walks.specs.LabelMarks.{drawings-of}
-use Rattle.walks.specs.PreparedLaws.{drawings-counted, prepared-few, prepared-patterns}
+use Rattle.walks.specs.PreparedLaws.{drawings-counted, prepared-few, prepared-sections}
 use Rattle.laws.specs.Parts.{part}
 use Rattle.laws.specs.PartLaws.{part-none, part-snoc, part-split, part-has}
 use Rattle.extending.specs.HeldCode.{basis, Can-read, Code-held, Code-kept}
@@ -71,10 +71,10 @@ record-byte x q l h = go (ltb q 8)
 
 -- WHAT THE CANDIDATES REST ON, after some records or none
 basis-extending :
-    {ds : List Drawing} {rank alphabet : List ℕ} {n : ℕ} → All-patterns ds → Ranks ds rank alphabet n → (k : ℕ) (floors : List ℕ) (γ : List Rec)
+    {ds : List Drawing} {rank alphabet : List ℕ} {n : ℕ} → All-sections ds → Ranks ds rank alphabet n → (k : ℕ) (floors : List ℕ) (γ : List Rec)
     → length γ ≤ 7 → Extending ds rank alphabet n γ (basis k γ) (Fit k floors γ)
-basis-extending patterns o k floors [] h = first-extending patterns o k
-basis-extending patterns o k floors (r ∷ rs) h = rows-extending patterns o r rs h floors
+basis-extending sections o k floors [] h = first-extending sections o k
+basis-extending sections o k floors (r ∷ rs) h = rows-extending sections o r rs h floors
 
 module _ {survey labels rank alphabet : List ℕ} {g : Settings} {γ : List Rec} {kind : ℕ} {cells seen list : List ℕ} {from top : ℕ} {out : List ℕ}
     {count : ℕ} (a : Can-walk-candidates survey labels rank alphabet g γ kind cells seen list from top out count) where
@@ -96,7 +96,7 @@ module _ {survey labels rank alphabet : List ℕ} {g : Settings} {γ : List Rec}
 
   extending : Extending (drawings-of survey) rank alphabet (g .labels) γ (basis kind γ) (Fit kind (a .floors) γ)
   extending =
-      basis-extending (prepared-patterns (a .set-up .prepared)) (a .set-up .prepared .ranks) kind (a .floors) γ
+      basis-extending (prepared-sections (a .set-up .prepared)) (a .set-up .prepared .ranks) kind (a .floors) γ
       (omega (arith, a .more, a .set-up .small))
 
   rising : Rises (rec-before-by kinds-before) (candidates-in kind γ alphabet (g .labels) (part from top list))
@@ -156,7 +156,7 @@ module _ {survey labels rank alphabet : List ℕ} {g : Settings} {γ : List Rec}
 
     drawn : is-pattern (decoded (snoc γ (record-at (basis kind γ) alphabet (g .labels) (q / (2 ^ 40))))) ≡ true
     drawn =
-        candidate-pattern extending (a .counting) (prepared-patterns (a .set-up .prepared))
+        candidate-pattern extending (a .counting) (prepared-sections (a .set-up .prepared))
         (omega (arith, a .more, a .set-up .small)) place-at
         candidate
 

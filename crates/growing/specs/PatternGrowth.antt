@@ -24,7 +24,7 @@ use Rattle.growth.specs.Growth.{Listed, Listed-by, listed-leaf}
 use Rattle.growth.specs.Frequent.{Frequent}
 use Rattle.growth.specs.Places.{place-of}
 use Rattle.growth.specs.CellLaws.{cell-count-is, count-true-bound}
-use Rattle.growth.specs.CountingExtensions.{All-patterns, Counting}
+use Rattle.growth.specs.CountingExtensions.{All-sections, Counting}
 use Rattle.codes.specs.ReadRows.{good-from-test}
 use Rattle.growth.specs.Floors.{Floors-of, Above, Grown-above}
 use Rattle.growth.specs.ListedBy.{Chosen-places, place-in, chosen-places, chosen-listed}
@@ -41,7 +41,7 @@ use Rattle.laws.specs.PutRecords.{put-record}
 use Rattle.laws.specs.PutRecordLaws.{put-length}
 use Rattle.growth.specs.EntryLaws.{entry-size, entry-behind}
 use Rattle.walks.specs.FloorLaws.{least-above}
-use Rattle.walks.specs.PreparedLaws.{drawings-counted, prepared-few, prepared-patterns}
+use Rattle.walks.specs.PreparedLaws.{drawings-counted, prepared-few, prepared-sections}
 use Rattle.walks.specs.Counts.{Can-count}
 use Rattle.laws.specs.Parts.{part}
 use Rattle.walks.specs.Choices.{List-kept}
@@ -104,15 +104,15 @@ frequent-above γ floors laid e f =
 
 -- so the candidates hold all that goes on
 pub candidates-listed :
-    {ds : List Drawing} {rank alphabet : List ℕ} {n : ℕ} {sets : ℕ → List Bool} {s : ℕ} (qs : List ℕ) → All-patterns ds
+    {ds : List Drawing} {rank alphabet : List ℕ} {n : ℕ} {sets : ℕ → List Bool} {s : ℕ} (qs : List ℕ) → All-sections ds
     → Rattle.growth.specs.Places.Ranks ds rank alphabet n → (k : ℕ) (floors : List ℕ) (γ : List Rec) → 1 ≤ length γ → length γ ≤ 7
     → Floors-of γ floors → Counting (place-of rank n) (Fit k floors γ) ds (length ds) sets → 1 ≤ s → Chosen-places sets s n (map place-in qs)
     → (l : ℕ) (cs : List (List Rec))
     → Listed-by kinds-before kinds-order (Frequent kinds-before ds s) l γ (candidates-in k γ alphabet n qs) cs
     → Listed kinds-before kinds-order (Frequent kinds-before ds s) l γ cs
-candidates-listed qs patterns o k floors [] some few laid c one h l cs t = absurd (omega arith)
-candidates-listed qs patterns o k floors (r ∷ rs) some few laid c one h l cs t =
-    chosen-listed patterns o r rs few floors c (frequent-above (r ∷ rs) floors laid) one h l cs t
+candidates-listed qs sections o k floors [] some few laid c one h l cs t = absurd (omega arith)
+candidates-listed qs sections o k floors (r ∷ rs) some few laid c one h l cs t =
+    chosen-listed sections o r rs few floors c (frequent-above (r ∷ rs) floors laid) one h l cs t
 
 module _ {survey labels rank alphabet : List ℕ} {g : Settings} {γ : List Rec} {cell : ℕ} {cells seen list : List ℕ} {base : ℕ} {out : List ℕ}
     {count : ℕ} (a : Can-grow-pattern survey labels rank alphabet g γ cell cells seen list base out count) where
@@ -278,7 +278,7 @@ module _ {survey labels rank alphabet : List ℕ} {g : Settings} {γ : List Rec}
               (candidates-in 0 γ alphabet (g .labels) (part base top list₂)) more
               → Listed kinds-before kinds-order (Frequent kinds-before (drawings-of survey) (g .threshold)) (g .limit) γ more
           all more =
-              candidates-listed (part base top list₂) (prepared-patterns (a .set-up .prepared)) (a .set-up .prepared .ranks) 0
+              candidates-listed (part base top list₂) (prepared-sections (a .set-up .prepared)) (a .set-up .prepared .ranks) 0
               (c .floors) γ (a .some) (omega (arith, less, a .set-up .small)) (c .laid)
               (fit-grown 0 (c .floors) γ (a .some) (c .counting)) (a .set-up .one)
               (chosen-places (c .sets) (g .threshold) (g .labels) (part base top list₂) sets-few (c .chosen)) (g .limit) more

@@ -12,7 +12,7 @@ use Rattle.laws.specs.Lists.{Mem, snoc, snoc-length, mem-at}
 use Rattle.graphs.specs.Drawing.{Drawing, is-pattern}
 use Rattle.graphs.specs.Map.{image, contains}
 use Rattle.graphs.specs.Survey.{containing, count-true, support}
-use Rattle.graphs.specs.Graph.{Pattern}
+use Rattle.graphs.specs.Graph.{Section}
 use Rattle.graphs.specs.Patterns.{pattern-to-test, byte-list-at, byte-list-from}
 use Rattle.codes.specs.Code.{Rec, Reading, fresh, rows-refusal, read-rows, decoded}
 use Rattle.codes.specs.ReadRows.{good-from-test, good-to-test}
@@ -25,7 +25,7 @@ use Rattle.growth.specs.PlaceLaws.{Placed, place-below, place-record, pl
 use Rattle.growth.specs.PlacedRecords.{alone, fits-placed, fits-first-placed}
 use Rattle.growth.specs.CountingExtensions.{
   drawing-at,
-  All-patterns,
+  All-sections,
   First-of,
   Fits-at,
   Counting,
@@ -48,7 +48,7 @@ contained-grown [] d e ok c = contained-fits d e [] ok c
 contained-grown (r ∷ rs) d e ok c = contained-fits d r (snoc rs e) ok c
 
 -- what fits a pattern describes one
-pub fits-pattern : (d : Drawing) → Pattern d → (rs : List Rec) → 1 ≤ length rs → length rs ≤ 20 → Fits d rs → is-pattern (decoded rs) ≡ true
+pub fits-pattern : (d : Drawing) → Section d → (rs : List Rec) → 1 ≤ length rs → length rs ≤ 20 → Fits d rs → is-pattern (decoded rs) ≡ true
 unfolding decoded
 fits-pattern d p rs one most t =
     pattern-to-test (decoded rs)
@@ -73,13 +73,13 @@ pub record Extending (ds : List Drawing) (rank labels : List ℕ) (n : ℕ) (γ 
   pub grown : (d : Drawing) (e : Rec) → Fit d e → Fits d (snoc γ e)
   pub again : (d g : Drawing) (e : Rec) → Fit g e → Fits d (snoc γ e) → Fit d e
 
-module _ {ds : List Drawing} {rank labels : List ℕ} {n : ℕ} (patterns : All-patterns ds) (o : Ranks ds rank labels n) where
+module _ {ds : List Drawing} {rank labels : List ℕ} {n : ℕ} (sections : All-sections ds) (o : Ranks ds rank labels n) where
   pub rows-extending :
       (r : Rec) (rs : List Rec) → length (r ∷ rs) ≤ 7 → (floors : List ℕ)
       → Extending ds rank labels n (r ∷ rs) (read-rows fresh (r ∷ rs)) (Grown-above (r ∷ rs) floors)
   rows-extending r rs few floors =
       record {
-        placed = λ d m e t. fits-placed o d m (patterns d m) r rs few e (t .0);
+        placed = λ d m e t. fits-placed o d m (sections d m) r rs few e (t .0);
         grown = λ d e t. t .0;
         again = λ d g e f t. (t, f .1);
       }
@@ -88,7 +88,7 @@ module _ {ds : List Drawing} {rank labels : List ℕ} {n : ℕ} (patterns : All-
   first-extending k =
       record {
         placed = λ d m e t.
-            subst (λ (a : ℕ). Placed (alone a) rank labels n e) (t .1) (fits-first-placed o d m (patterns d m) e (t .0));
+            subst (λ (a : ℕ). Placed (alone a) rank labels n e) (t .1) (fits-first-placed o d m (sections d m) e (t .0));
         grown = λ d e t. t .0;
         again = λ d g e f t. (t, f .1);
       }
@@ -183,7 +183,7 @@ module _ {ds : List Drawing} {rank labels : List ℕ} {n : ℕ} {γ : List Rec} 
 
   -- and the grown pattern is one
   pub candidate-pattern :
-      All-patterns ds → length γ ≤ 19 → (p : ℕ) → Candidate p → is-pattern (decoded (snoc γ (record-at x labels n p))) ≡ true
-  candidate-pattern patterns few p q =
-      fits-pattern (q .drawing) (patterns (q .drawing) (q .member)) (snoc γ (record-at x labels n p)) (rw snoc-length (omega arith))
+      All-sections ds → length γ ≤ 19 → (p : ℕ) → Candidate p → is-pattern (decoded (snoc γ (record-at x labels n p))) ≡ true
+  candidate-pattern sections few p q =
+      fits-pattern (q .drawing) (sections (q .drawing) (q .member)) (snoc γ (record-at x labels n p)) (rw snoc-length (omega arith))
       (rw snoc-length (omega arith)) (t .grown (q .drawing) (record-at x labels n p) (q .fits))

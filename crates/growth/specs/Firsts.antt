@@ -22,7 +22,7 @@ use Rattle.growth.specs.Frequent.{Frequent, frequent-prefix}
 use Rattle.growth.specs.Places.{Ranks, record-at}
 use Rattle.growth.specs.RecordOrder.{same-forward-first, smaller-kind-first}
 use Rattle.growth.specs.PlacedRecords.{alone}
-use Rattle.growth.specs.CountingExtensions.{All-patterns, First-of}
+use Rattle.growth.specs.CountingExtensions.{All-sections, First-of}
 use Rattle.growth.specs.Counted.{Counted-firsts, first-extending, frequent-fits}
 use Rattle.growth.specs.ListedBy.{Chosen-places, records-at, chosen-candidate, chosen-rise, chosen-all}
 
@@ -63,7 +63,7 @@ module _ {ds : List Drawing} {s k : ℕ} {es : List Rec} (one : 1 ≤ s) (t : Fi
           go (no l) = let q = first-fits e more f in absurd (none (q .0) e (q .1) (q .2, omega arith))
 
   -- THE CANDIDATES OF ONE KIND MORE
-  module _ {rank labels : List ℕ} {n : ℕ} {sets : ℕ → List Bool} {ps : List ℕ} (patterns : All-patterns ds) (o : Ranks ds rank labels n)
+  module _ {rank labels : List ℕ} {n : ℕ} {sets : ℕ → List Bool} {ps : List ℕ} (sections : All-sections ds) (o : Ranks ds rank labels n)
       (c : Counted-firsts ds k rank n sets) (h : Chosen-places sets s n ps) where
     -- each fits some drawing
     chosen-first : (e : Rec) → Mem e (records-at (alone k) labels n ps) → (e .i ≡ 0) × (e .j ≡ 1) × (e .ki ≡ k)
@@ -71,7 +71,7 @@ module _ {ds : List Drawing} {s k : ℕ} {es : List Rec} (one : 1 ≤ s) (t : Fi
       where
         go : Sent (record-at (alone k) labels n) ps e → (e .i ≡ 0) × (e .j ≡ 1) × (e .ki ≡ k)
         go w =
-            let q = chosen-candidate o (first-extending patterns o k) c one h (w .a) (w .member) in
+            let q = chosen-candidate o (first-extending sections o k) c one h (w .a) (w .member) in
             let f : First-of k (q .drawing) e = subst (First-of k (q .drawing)) (w .is) (q .fits) in
             let z = fits-one (q .drawing) e (f .0) in
             (z .0, z .1, f .1)
@@ -96,7 +96,7 @@ module _ {ds : List Drawing} {s k : ℕ} {es : List Rec} (one : 1 ≤ s) (t : Fi
         rise : Rises (rec-before-by kinds-before) (es ++ records-at (alone k) labels n ps)
         rise =
             rises-append (rec-before-by kinds-before) es (records-at (alone k) labels n ps) (t .rise)
-            (chosen-rise o (first-extending patterns o k) c one h) firsts-apart
+            (chosen-rise o (first-extending sections o k) c one h) firsts-apart
 
         all : (e : Rec) (more : List Rec) → e .ki < suc k → Frequent kinds-before ds s (e ∷ more) → Mem e (es ++ records-at (alone k) labels n ps)
         all e more l f = go (decLt (e .ki) k)
@@ -105,20 +105,20 @@ module _ {ds : List Drawing} {s k : ℕ} {es : List Rec} (one : 1 ≤ s) (t : Fi
             go (yes z) = mem-front (records-at (alone k) labels n ps) (t .all e more z f)
             go (no z) =
                 let q : e .ki ≡ k = omega arith in
-                mem-back es (chosen-all o (first-extending patterns o k) c one h e more (λ d w. (w, q)) f)
+                mem-back es (chosen-all o (first-extending sections o k) c one h e more (λ d w. (w, q)) f)
 
   -- WITH ALL KINDS, what goes on by them is all that is frequent
   pub firsts-listed :
-      All-patterns ds → 256 ≤ k → (l : ℕ) (cs : List (List Rec))
+      All-sections ds → 256 ≤ k → (l : ℕ) (cs : List (List Rec))
       → Listed-by kinds-before kinds-order (Frequent kinds-before ds s) l [] es cs
       → Listed kinds-before kinds-order (Frequent kinds-before ds s) l [] cs
   unfolding first-record
-  firsts-listed patterns high l cs =
+  firsts-listed sections high l cs =
       listed-all kinds-before kinds-order (Frequent kinds-before ds s) l [] es cs (λ e more f. t .all e more (byte e (first-fits e more f)) f)
     where
       byte : (e : Rec) → (d : Drawing) × Mem d ds × Fits d (e ∷ []) → e .ki < k
       byte e (d, m, w) =
           let q = fits-first d e w in
-          let p = patterns d m in
+          let p = sections d m in
           let z : kind d (q .u) ≡ e .ki = ap (λ (g : Rec). g .ki) (q .record-is) in
           omega (arith, z, byte-list-at (d .kinds) (q .u) 256 (p .bytes) (p .simple .ends (q .u) (q .w) (q .k) (q .has)))

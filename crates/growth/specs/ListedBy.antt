@@ -31,7 +31,7 @@ use Rattle.growth.specs.Frequent.{Frequent, frequent-prefix}
 use Rattle.growth.specs.Places.{Ranks, place-of, record-at, cell-number, candidate-of}
 use Rattle.growth.specs.CellLaws.{cell-number-below, candidate-place, candidate-rises}
 use Rattle.growth.specs.PlaceLaws.{place-below, place-record, place-order}
-use Rattle.growth.specs.CountingExtensions.{All-patterns, Counting}
+use Rattle.growth.specs.CountingExtensions.{All-sections, Counting}
 use Rattle.growth.specs.Floors.{Above, Grown-above}
 use Rattle.growth.specs.Counted.{
   Extending,
@@ -143,7 +143,7 @@ module _ {ds : List Drawing} {rank labels : List ℕ} {n : ℕ} {γ : List Rec} 
       (h .all (place-of rank n e) (place-below w) (counted-candidate t c s one kinds-before e into g)))
 
 -- AFTER ROWS: what goes on by the records at chosen places is all that goes on, if what is frequent is above the floors
-module _ {ds : List Drawing} {rank labels : List ℕ} {n : ℕ} {sets : ℕ → List Bool} {s : ℕ} {ps : List ℕ} (patterns : All-patterns ds)
+module _ {ds : List Drawing} {rank labels : List ℕ} {n : ℕ} {sets : ℕ → List Bool} {s : ℕ} {ps : List ℕ} (sections : All-sections ds)
     (o : Ranks ds rank labels n) (r : Rec) (rs : List Rec) (few : length (r ∷ rs) ≤ 7) (floors : List ℕ)
     (c : Counting (place-of rank n) (Grown-above (r ∷ rs) floors) ds (length ds) sets)
     (above : (e : Rec) → Frequent kinds-before ds s (snoc (r ∷ rs) e) → Above floors e) (one : 1 ≤ s) (h : Chosen-places sets s n ps) where
@@ -154,7 +154,7 @@ module _ {ds : List Drawing} {rank labels : List ℕ} {n : ℕ} {sets : ℕ → 
   chosen-listed l cs =
       listed-all kinds-before kinds-order (Frequent kinds-before ds s) l (r ∷ rs) (records-at (read-rows fresh (r ∷ rs)) labels n ps) cs
       (λ e more f.
-      chosen-all o (rows-extending patterns o r rs few floors) c one h e more
+      chosen-all o (rows-extending sections o r rs few floors) c one h e more
       (λ d t. (t, above e (frequent-prefix kinds-before kinds-order ds s (r ∷ rs) e more f))) f)
 
 -- LISTS JOIN: what goes on by earlier next records, then by later ones

@@ -12,7 +12,7 @@ use Rattle.laws.specs.Lists.{Mem, snoc, snoc-length}
 use Rattle.graphs.specs.Drawing.{Drawing, kind}
 use Rattle.graphs.specs.Map.{image}
 use Rattle.graphs.specs.Cables.{Has, has-flip}
-use Rattle.graphs.specs.Graph.{Pattern}
+use Rattle.graphs.specs.Graph.{Section}
 use Rattle.graphs.specs.Patterns.{byte-list-at}
 use Rattle.codes.specs.Code.{
   Rec,
@@ -69,7 +69,7 @@ alone k = record { kinds = k ∷ []; path = 0 ∷ []; back = 10; cables = [] }
 module _ {ds : List Drawing} {rank labels : List ℕ} {n : ℕ} (o : Ranks ds rank labels n) where
   -- a permitted step with a cable of the survey
   pub step-placed :
-      (x : Reading) → Invariant x → length (x .kinds) ≤ 8 → (e : Rec) → Step x e → (d : Drawing) → Mem d ds → Pattern d
+      (x : Reading) → Invariant x → length (x .kinds) ≤ 8 → (e : Rec) → Step x e → (d : Drawing) → Mem d ds → Section d
       → (u v : ℕ) → Has u v (e .c) (d .cables) → kind d v ≡ e .kj → Placed x rank labels n e
   step-placed x i few e s d m p u v h k =
       record {
@@ -90,7 +90,7 @@ module _ {ds : List Drawing} {rank labels : List ℕ} {n : ℕ} (o : Ranks ds ra
 
   -- a record local to a numbering
   pub local-placed :
-      (d : Drawing) → Mem d ds → Pattern d → (γ : List Rec) → length γ ≤ 7 → (f : List ℕ) → Node d γ f → (e : Rec)
+      (d : Drawing) → Mem d ds → Section d → (γ : List Rec) → length γ ≤ 7 → (f : List ℕ) → Node d γ f → (e : Rec)
       → Local d (read-rows fresh γ) f e → Placed (read-rows fresh γ) rank labels n e
   local-placed d m p γ few f a e l = go l
     where
@@ -110,7 +110,7 @@ module _ {ds : List Drawing} {rank labels : List ℕ} {n : ℕ} (o : Ranks ds ra
 
   -- a record that fits some drawing
   pub fits-placed :
-      (d : Drawing) → Mem d ds → Pattern d → (r : Rec) (rs : List Rec) → length (r ∷ rs) ≤ 7 → (e : Rec) → Fits d (snoc (r ∷ rs) e)
+      (d : Drawing) → Mem d ds → Section d → (r : Rec) (rs : List Rec) → length (r ∷ rs) ≤ 7 → (e : Rec) → Fits d (snoc (r ∷ rs) e)
       → Placed (read-rows fresh (r ∷ rs)) rank labels n e
   fits-placed d m p r rs few e t =
       local-placed d m p (r ∷ rs) few (s .numbering) node e (s .local)
@@ -126,7 +126,7 @@ module _ {ds : List Drawing} {rank labels : List ℕ} {n : ℕ} (o : Ranks ds ra
 
   -- a first record
   pub first-placed :
-      (d : Drawing) → Mem d ds → Pattern d → (u w k : ℕ) → Has u w k (d .cables)
+      (d : Drawing) → Mem d ds → Section d → (u w k : ℕ) → Has u w k (d .cables)
       → Placed (alone (kind d u)) rank labels n (first-record d u w k)
   unfolding first-record end
   first-placed d m p u w k h =
@@ -138,7 +138,7 @@ module _ {ds : List Drawing} {rank labels : List ℕ} {n : ℕ} (o : Ranks ds ra
         label-is = o .label-is d m u w k h;
       }
 
-  pub fits-first-placed : (d : Drawing) → Mem d ds → Pattern d → (e : Rec) → Fits d (e ∷ []) → Placed (alone (e .ki)) rank labels n e
+  pub fits-first-placed : (d : Drawing) → Mem d ds → Section d → (e : Rec) → Fits d (e ∷ []) → Placed (alone (e .ki)) rank labels n e
   fits-first-placed d m p e t =
       let c = fits-first d e t in
       subst (λ (g : Rec). Placed (alone (g .ki)) rank labels n g) (c .record-is)
@@ -146,7 +146,7 @@ module _ {ds : List Drawing} {rank labels : List ℕ} {n : ℕ} (o : Ranks ds ra
 
   -- FIRST RECORDS of one kind of device 0: by the number of the label
   pub first-rank-order :
-      (d e : Drawing) → Mem d ds → Mem e ds → Pattern d → Pattern e → (u w k v z l : ℕ) → Has u w k (d .cables) → Has v z l (e .cables)
+      (d e : Drawing) → Mem d ds → Mem e ds → Section d → Section e → (u w k v z l : ℕ) → Has u w k (d .cables) → Has v z l (e .cables)
       → kind d u ≡ kind e v → getD rank (label-of k (kind d w)) 0 < getD rank (label-of l (kind e z)) 0
       → rec-before-by kinds-before (first-record d u w k) (first-record e v z l) ≡ true
   unfolding first-record

@@ -25,7 +25,7 @@ fn degrees(drawing: &[u8], m: usize) -> [u8; Drawing::MOST_DEVICES]
 
 // A cable whose two ends have the most cables together.
 pub(crate) fn busiest(drawing: &[u8], m: usize) -> usize
-    requires { ⌜ (drawing-refusal (now drawing) ≡ 0) × (m ≡ getD (now drawing) 1 0) ⌝ }
+    requires { ⌜ (drawing-refusal (now drawing) ≡ 0) × (m ≡ getD (now drawing) 1 0) × (0 < m) ⌝ }
     ensures { λ r. ⌜ r < m ⌝ }
 {
     let counts = degrees(drawing, m);

@@ -12,6 +12,7 @@ use tables::table::CELLS;
 use tables::table::labels_of_drawing;
 use tables::twins::twins_of;
 ghost use mathlib.Core.Path.{_≡_};
+ghost use Prim.Native.Nat.{_<_};
 ghost use lib.ListN.{length, getD};
 ghost use Rattle.graphs.specs.Drawing.{drawing-in, drawing-refusal};
 ghost use Rattle.codes.specs.Code.{recs-in, Least};
@@ -71,9 +72,9 @@ fn start_either(
     start(drawing, table, twins, m, turned, best, kept)
 }
 
-// The least code of an accepted drawing of m cables: each of them begins one, from either end, the busiest first.
+// The least code of an accepted drawing of m cables, at least one: each of them begins one, from either end, the busiest first.
 pub fn least_code(drawing: &[u8], m: usize) -> Code
-    requires { ⌜ (drawing-refusal (now drawing) ≡ 0) × (m ≡ getD (now drawing) 1 0) ⌝ }
+    requires { ⌜ (drawing-refusal (now drawing) ≡ 0) × (m ≡ getD (now drawing) 1 0) × (0 < m) ⌝ }
     ensures { λ r. ⌜ Least (drawing-in (now (drawing .entry))) (held-records r) ⌝ }
 {
     let table = labels_of_drawing(drawing);

@@ -9,7 +9,8 @@ use lib.Dec.{leb}
 use lib.ListN.{length, getD, take, drop, length-drop}
 use lib.Seq.{take-all, length-take-le}
 use Rattle.laws.specs.Tests.{and-split, passes}
-use Rattle.graphs.specs.Drawing.{devices, drawing-in, cable-refusal, all-zero, unused-zero, connected, drawing-refusal}
+use Rattle.graphs.specs.Drawing.{devices, cables-fit, drawing-in, cable-refusal, all-zero, unused-zero, connected, drawing-refusal}
+use Rattle.graphs.specs.Sections.{fit-from-test, fit-most}
 use Rattle.records.specs.declared.drawing.Drawing.{Drawing}
 use Rattle.records.specs.Drawings.{counts-in, counts-refusal, rest-refusal, Counts-within}
 use Rattle.records.specs.Refusals.{first-of}
@@ -18,44 +19,38 @@ use Rattle.records.specs.DrawingCables.{cables-before}
 
 -- COUNTS within the limits, or not
 module _ (d : Drawing) where
-  pub devices-too-few : d .devices < 2 → counts-refusal d ≡ 2
+  pub devices-too-few : d .devices < 1 → counts-refusal d ≡ 2
   unfolding counts-refusal
   devices-too-few h = simp (lt-leb _ _ h)
 
   pub devices-too-many : 10 < d .devices → counts-refusal d ≡ 2
   unfolding counts-refusal
-  devices-too-many h = let g : 2 ≤ d .devices = omega arith in simp (le-leb _ _ g, lt-leb _ _ h)
+  devices-too-many h = let g : 1 ≤ d .devices = omega arith in simp (le-leb _ _ g, lt-leb _ _ h)
 
-  module _ (low : 2 ≤ d .devices) (high : d .devices ≤ 10) where
-    pub cables-too-few : d .cables < 1 → counts-refusal d ≡ 3
+  module _ (low : 1 ≤ d .devices) (high : d .devices ≤ 10) where
+    pub cables-unfit : cables-fit (d .devices) (d .cables) ≡ false → counts-refusal d ≡ 3
     unfolding counts-refusal
-    cables-too-few h = simp (le-leb _ _ low, le-leb _ _ high, lt-leb _ _ h)
+    cables-unfit h = simp (le-leb _ _ low, le-leb _ _ high, h)
 
-    pub cables-too-many : 20 < d .cables → counts-refusal d ≡ 3
+    pub counts-fine : cables-fit (d .devices) (d .cables) ≡ true → counts-refusal d ≡ 0
     unfolding counts-refusal
-    cables-too-many h =
-        let g : 1 ≤ d .cables = omega arith in
-        simp (le-leb _ _ low, le-leb _ _ high, le-leb _ _ g, lt-leb _ _ h)
-
-    pub counts-fine : 1 ≤ d .cables → d .cables ≤ 20 → counts-refusal d ≡ 0
-    unfolding counts-refusal
-    counts-fine h g = simp (le-leb _ _ low, le-leb _ _ high, le-leb _ _ h, le-leb _ _ g)
+    counts-fine h = simp (le-leb _ _ low, le-leb _ _ high, h)
 
   -- what counts that are not refused are known by
   fine-tests : counts-refusal d ≡ 0
-      → ((leb 2 (d .devices) && leb (d .devices) 10) ≡ true) × ((leb 1 (d .cables) && leb (d .cables) 20) ≡ true)
+      → ((leb 1 (d .devices) && leb (d .devices) 10) ≡ true) × (cables-fit (d .devices) (d .cables) ≡ true)
   unfolding counts-refusal
   fine-tests e =
-      let n = passes (leb 2 (d .devices) && leb (d .devices) 10) 2 _ (λ q. omega arith) e in
-      (n .0, passes (leb 1 (d .cables) && leb (d .cables) 20) 3 0 (λ q. omega arith) (n .1) .0)
+      let n = passes (leb 1 (d .devices) && leb (d .devices) 10) 2 _ (λ q. omega arith) e in
+      (n .0, passes (cables-fit (d .devices) (d .cables)) 3 0 (λ q. omega arith) (n .1) .0)
 
   pub counts-known : (bs : List ℕ) → length bs ≡ 72 → d ≡ counts-in bs → counts-refusal d ≡ 0 → Counts-within bs d
   counts-known bs whole is e =
       record {
         whole = whole;
         counts = is;
-        devices-most = leb-true (d .devices) 10 (and-split (leb 2 (d .devices)) (leb (d .devices) 10) (fine-tests e .0) .1);
-        cables-most = leb-true (d .cables) 20 (and-split (leb 1 (d .cables)) (leb (d .cables) 20) (fine-tests e .1) .1);
+        devices-most = leb-true (d .devices) 10 (and-split (leb 1 (d .devices)) (leb (d .devices) 10) (fine-tests e .0) .1);
+        cables-most = fit-most (fit-from-test (d .devices) (d .cables) (fine-tests e .1));
       }
 
 module _ (bs : List ℕ) (d : Drawing) (known : Counts-within bs d) where

@@ -5,7 +5,7 @@ use mathlib.Core.List.{List}
 use Prim.Native.Nat.{ℕ, _≤_}
 use lib.Dec.{leb}
 use lib.ListN.{length, getD}
-use Rattle.graphs.specs.Drawing.{drawing-in, unused-zero, connected}
+use Rattle.graphs.specs.Drawing.{cables-fit, drawing-in, unused-zero, connected}
 use Rattle.records.specs.declared.drawing.Drawing.{Drawing}
 
 -- what the first two bytes say
@@ -15,7 +15,7 @@ counts-in bs = record { devices = getD bs 0 0; cables = getD bs 1 0 }
 -- counts: 2 n; then 3 m
 unfoldable pub counts-refusal : Drawing → ℕ
 counts-refusal d =
-    cond (not (leb 2 (d .devices) && leb (d .devices) 10)) 2 (cond (not (leb 1 (d .cables) && leb (d .cables) 20)) 3 0)
+    cond (not (leb 1 (d .devices) && leb (d .devices) 10)) 2 (cond (not (cables-fit (d .devices) (d .cables))) 3 0)
 
 -- rest of the drawing: 7 unused byte not zero; then 8 not connected
 unfoldable pub rest-refusal : List ℕ → ℕ

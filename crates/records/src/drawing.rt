@@ -3,6 +3,7 @@ use crate::bytes::byte_or_zero;
 use crate::refusal::Checked;
 use crate::refusal::Refusal;
 ghost use mathlib.Core.Path.{_≡_};
+ghost use Rattle.graphs.specs.Drawing.{cables-fit};
 ghost use Rattle.records.specs.Refusals.{checked-number};
 ghost use Rattle.records.specs.Drawings.{counts-in, counts-refusal};
 
@@ -15,7 +16,7 @@ pub struct Drawing {
 impl Drawing {
     pub const BYTES: usize = 72;
 
-    pub const LEAST_DEVICES: usize = 2;
+    pub const LEAST_DEVICES: usize = 1;
 
     pub const MOST_DEVICES: usize = 10;
 
@@ -39,6 +40,16 @@ impl Drawing {
         }
     }
 
+    // Whether so many devices may have so many cables: a lone one has none.
+    fn cables_fit(self) -> bool
+        ensures { λ r. ⌜ r ≡ cables-fit (self .devices) (self .cables) ⌝ }
+    {
+        if self.devices == 1 {
+            return self.cables == 0;
+        }
+        Drawing::LEAST_CABLES <= self.cables && self.cables <= Drawing::MOST_CABLES
+    }
+
     // The first reason to refuse the counts, the devices' before the cables'.
     pub fn check_counts(self) -> Checked
         ensures { λ r. ⌜ checked-number r ≡ counts-refusal self ⌝ }
@@ -46,7 +57,7 @@ impl Drawing {
         if self.devices < Drawing::LEAST_DEVICES || Drawing::MOST_DEVICES < self.devices {
             return Checked::Refused(Refusal::DeviceCount);
         }
-        if self.cables < Drawing::LEAST_CABLES || Drawing::MOST_CABLES < self.cables {
+        if !self.cables_fit() {
             return Checked::Refused(Refusal::CableCount);
         }
         Checked::Accepted

@@ -1,16 +1,17 @@
--- What the paper says of its starred drawings, D1 to D12: the kinds of case, what each means, how each is computed, and
--- the table. Assumes nothing: these are definitions.
+-- What the paper says of its starred drawings, D1 to D12, and of sections with one device: the kinds of case, what each means, how
+-- each is computed, and the table. Assumes nothing: these are definitions.
 use mathlib.Core.Path.{_≡_}
-use mathlib.Core.Bool.{Bool, true, false, _&&_, not}
+use mathlib.Core.Bool.{Bool, true, false, _&&_, not, cond}
 use mathlib.Core.List.{List, [], _∷_, _++_, map}
 use mathlib.Core.Option.{Option, none, some}
 use Prim.Native.Nat.{ℕ}
-use lib.Dec.{eqb}
-use lib.ListN.{replicate}
-use Rattle.graphs.specs.Drawing.{Cable, Drawing, drawing-in, drawing-bytes, byte-list, accepted}
+use lib.Dec.{leb, eqb}
+use lib.ListN.{length, replicate}
+use Rattle.graphs.specs.Drawing.{Cable, Drawing, kind, drawing-in, drawing-bytes, byte-list, accepted}
 use Rattle.graphs.specs.Map.{same-by, maps-into, least-map, contains, Found}
 use Rattle.graphs.specs.Survey.{survey, survey-refusal}
-use Rattle.codes.specs.Code.{Rec, kinds-before, rows-good, rec-bytes, code-refusal, decoded, Code-of, Least}
+use Rattle.codes.specs.Code.{Rec, kinds-before, rows-good, rec-bytes, decoded, Code-of}
+use Rattle.codes.specs.SectionCode.{lone-code, section-code-refusal, Least-section}
 use Rattle.codes.specs.LeastSearch.{rows-same, is-least-code}
 use Rattle.growth.specs.Catalogue.{Entry, entry, Catalogue}
 use Rattle.growth.specs.Mined.{mined-entries}
@@ -18,7 +19,7 @@ use Rattle.growth.specs.Mined.{mined-entries}
 pub data Case : Type 0 where
   -- the drawing is accepted, and this is its least code
   coded : (drawing : List ℕ) (code : List Rec) → Case
-  -- the drawing is accepted, and this is a DFS code of it, not its least
+  -- the drawing is accepted and has cables, and this is a DFS code of it, not its least
   other-code : (drawing : List ℕ) (code : List Rec) → Case
   -- the code's bytes are refused with this number
   refused-code : (code : List ℕ) (number : ℕ) → Case
@@ -31,9 +32,9 @@ pub data Case : Type 0 where
 
 -- WHAT A CASE MEANS
 unfoldable pub Holds : Case → Type 0
-Holds (coded bs rs) = (accepted bs ≡ true) × Least (drawing-in bs) rs
-Holds (other-code bs rs) = (accepted bs ≡ true) × Code-of (drawing-in bs) rs × (Least (drawing-in bs) rs → ⊥)
-Holds (refused-code bs n) = code-refusal bs ≡ n
+Holds (coded bs rs) = (accepted bs ≡ true) × Least-section (drawing-in bs) rs
+Holds (other-code bs rs) = (accepted bs ≡ true) × Code-of (drawing-in bs) rs × (Least-section (drawing-in bs) rs → ⊥)
+Holds (refused-code bs n) = section-code-refusal bs ≡ n
 Holds (matched ps ds f) = (accepted ps ≡ true) × (accepted ds ≡ true) × Found (drawing-in ps) (drawing-in ds) f
 Holds (not-contained ps ds) =
     (accepted ps ≡ true) × (accepted ds ≡ true) × ((g : List ℕ) → maps-into (drawing-in ps) (drawing-in ds) g ≡ true → ⊥)
@@ -46,6 +47,13 @@ same-by-found d e (some f) = same-by d e f
 
 unfoldable pub is-code-of : Drawing → List Rec → Bool
 is-code-of d rs = rows-good rs && same-by-found (decoded rs) d (least-map (decoded rs) d)
+
+-- without cables, the least code is the one record
+unfoldable pub has-cables : Drawing → Bool
+has-cables d = leb 1 (length (d .cables))
+
+unfoldable pub is-least-section : Drawing → List Rec → Bool
+is-least-section d rs = cond (has-cables d) (is-least-code kinds-before d rs) (rows-same rs (lone-code (kind d 0)))
 
 unfoldable pub same-numbers : (f g : List ℕ) → Bool
 same-numbers [] [] = true
@@ -64,9 +72,10 @@ same-entries (e ∷ es) [] = false
 same-entries (e ∷ es) (g ∷ gs) = (eqb (e .support) (g .support) && rows-same (e .code) (g .code)) && same-entries es gs
 
 unfoldable pub meets : Case → Bool
-meets (coded bs rs) = accepted bs && is-least-code kinds-before (drawing-in bs) rs
-meets (other-code bs rs) = accepted bs && (is-code-of (drawing-in bs) rs && not (is-least-code kinds-before (drawing-in bs) rs))
-meets (refused-code bs n) = eqb (code-refusal bs) n
+meets (coded bs rs) = accepted bs && is-least-section (drawing-in bs) rs
+meets (other-code bs rs) =
+    accepted bs && (has-cables (drawing-in bs) && (is-code-of (drawing-in bs) rs && not (is-least-code kinds-before (drawing-in bs) rs)))
+meets (refused-code bs n) = eqb (section-code-refusal bs) n
 meets (matched ps ds f) = accepted ps && (accepted ds && is-map (least-map (drawing-in ps) (drawing-in ds)) f)
 meets (not-contained ps ds) = accepted ps && (accepted ds && not (contains (drawing-in ps) (drawing-in ds)))
 meets (catalogued bs s l es) =
@@ -142,4 +151,19 @@ table =
     ∷ not-contained triangle path-of-3
     -- D12 D3 then D4, s = 1, L = 4
     ∷ catalogued (path-of-3 ++ triangle) 1 4 path-and-triangle
+    -- one device, kinds 7 and 8
+    ∷ coded (drawing-of (7 ∷ []) []) (lone-code 7)
+    ∷ coded (drawing-of (8 ∷ []) []) (lone-code 8)
+    -- a cable kind, unequal kinds, both, the record twice, and behind a code
+    ∷ refused-code (0 ∷ 0 ∷ 7 ∷ 1 ∷ 7 ∷ []) 10
+    ∷ refused-code (0 ∷ 0 ∷ 7 ∷ 0 ∷ 8 ∷ []) 11
+    ∷ refused-code (0 ∷ 0 ∷ 7 ∷ 1 ∷ 8 ∷ []) 10
+    ∷ refused-code (rec-bytes (lone-code 7 ++ lone-code 7)) 10
+    ∷ refused-code (rec-bytes (plain-code ((0, 1) ∷ []) ++ lone-code 1)) 10
+    -- kind 1 in D3, and not the other way round
+    ∷ matched (drawing-of (1 ∷ []) []) path-of-3 (0 ∷ [])
+    ∷ not-contained path-of-3 (drawing-of (1 ∷ []) [])
+    -- among D3 and D4 they add nothing, and alone they have no entry
+    ∷ catalogued (drawing-of (1 ∷ []) [] ++ path-of-3 ++ drawing-of (7 ∷ []) [] ++ triangle) 1 4 path-and-triangle
+    ∷ catalogued (drawing-of (7 ∷ []) [] ++ drawing-of (7 ∷ []) []) 1 4 []
     ∷ []

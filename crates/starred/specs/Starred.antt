@@ -1,12 +1,14 @@
 -- The starred drawings are as the paper says: one statement over the table, computed by the checker, and its meaning.
 -- Rests on the laws of the search for the least code. Assumes nothing.
-use mathlib.Core.Path.{_≡_, refl, ap, ap₂, subst}
-use mathlib.Core.Bool.{true, _&&_, not, false≢true}
+use mathlib.Core.Path.{_≡_, refl, ap, ap₂, subst, _∙_}
+use mathlib.Core.Bool.{Bool, true, false, _&&_, not, cond, false≢true}
 use mathlib.Core.List.{List, [], _∷_}
+use mathlib.Core.Logic.{_⊎_, inl, inr}
 use mathlib.Core.Option.{Option, none, some}
 use Prim.Native.Nat.{ℕ}
 use lib.Dec.{eqb}
-use borrow.Author.Tests.{eqb-true, not-true}
+use lib.ListN.{length}
+use borrow.Author.Tests.{eqb-true, leb-true, le-leb, not-true}
 use Rattle.laws.specs.Tests.{and-split, true-and-false}
 use Rattle.laws.specs.Lists.{Mem, concat}
 use Rattle.laws.specs.Rows.{rows}
@@ -14,6 +16,8 @@ use Rattle.laws.specs.Selections.{each, only-if, least-of}
 use Rattle.laws.specs.Rising.{placed, sorted}
 use Rattle.graphs.specs.Drawing.{
   Drawing,
+  kind,
+  cables-fit,
   cable-in,
   cables-in,
   drawing-in,
@@ -66,7 +70,9 @@ use Rattle.graphs.specs.Survey.{
   count-true,
   support,
 }
-use Rattle.graphs.specs.Patterns.{accepted-pattern}
+use Rattle.graphs.specs.Patterns.{accepted-section}
+use Rattle.graphs.specs.Graph.{Section, Pattern, lone-drawing}
+use Rattle.graphs.specs.Sections.{section-pattern, lone-or-pattern}
 use Rattle.graphs.specs.Embedding.{Ends-in-range}
 use Rattle.graphs.specs.Embeddings.{embedding-from-test}
 use Rattle.graphs.specs.LeastMap.{least-map-found, contains-from-embedding}
@@ -97,6 +103,16 @@ use Rattle.codes.specs.Code.{
   rec-same,
 }
 use Rattle.codes.specs.CodeOrder.{kinds-order}
+use Rattle.codes.specs.SectionCode.{
+  lone-record,
+  lone-code,
+  lone-row,
+  lone-refusal,
+  lone-bytes,
+  section-code-refusal,
+  Least-section,
+}
+use Rattle.codes.specs.SectionCodes.{lone-least, least-pattern, pattern-least}
 use Rattle.codes.specs.Extension.{edge-record, chord-record}
 use Rattle.codes.specs.FirstRecord.{first-record}
 use Rattle.codes.specs.LeastSearch.{
@@ -130,6 +146,8 @@ use Rattle.starred.specs.Cases.{
   Holds,
   same-by-found,
   is-code-of,
+  has-cables,
+  is-least-section,
   same-numbers,
   is-map,
   same-entries,
@@ -144,7 +162,8 @@ use Rattle.starred.specs.Cases.{
 
 -- THE STARRED DRAWINGS, computed
 pub starred : all-meet table ≡ true
-unfolding table alike is-map same-numbers contains is-some plain-code plain-drawing drawing-of all-meet meets is-code-of same-by-found
+unfolding table has-cables is-least-section cables-fit lone-record lone-row lone-refusal lone-bytes section-code-refusal
+    alike is-map same-numbers contains is-some plain-code plain-drawing drawing-of all-meet meets is-code-of same-by-found
     is-least-code rows-same least-code search-rows least-record after-record locals chord-choice edge-choice firsts first-choice ways
     first-record edge-record chord-record least-of only-if each concat rows
     code-refusal recs-in rec-in rec-bytes rows-good rows-refusal kinds-match step-good forward-good backward-good second end forward
@@ -166,6 +185,26 @@ code-from-test d rs e =
     go : rows-good rs ≡ true → (f : Option (List ℕ)) → same-by-found (decoded rs) d f ≡ true → Code-of d rs
     go g none h = absurd (false≢true h)
     go g (some f) h = record { good = g; numbers = f; describes = h }
+
+with-cables : (d : Drawing) → Section d → has-cables d ≡ true → Pattern d
+unfolding has-cables
+with-cables d s h = section-pattern s (leb-true 1 (length (d .cables)) h)
+
+least-section-from-test : (d : Drawing) → Section d → (rs : List Rec) → is-least-section d rs ≡ true → Least-section d rs
+unfolding is-least-section
+least-section-from-test d s rs e = go (has-cables d) refl e
+  where
+    lone : ((k : ℕ) × (d ≡ lone-drawing k)) ⊎ Pattern d → has-cables d ≡ false → rows-same rs (lone-code (kind d 0)) ≡ true → Least-section d rs
+    lone (inl (k, is)) t h =
+        let code : rs ≡ lone-code k = rows-same-from-test rs (lone-code (kind d 0)) h ∙ ap (λ (x : Drawing). lone-code (kind x 0)) is in
+        rw (is, code) (lone-least kinds-before k)
+    lone (inr p) t h = unfold has-cables in absurd (true-and-false (le-leb 1 (length (d .cables)) (p .cables-low)) t)
+
+    go : (t : Bool) → has-cables d ≡ t → cond t (is-least-code kinds-before d rs) (rows-same rs (lone-code (kind d 0))) ≡ true → Least-section d rs
+    go true t h =
+        let p = with-cables d s t in
+        least-pattern kinds-before p (least-from-test kinds-before kinds-order d p rs h)
+    go false t h = lone (lone-or-pattern d s) t h
 
 numbers-from-test : (f g : List ℕ) → same-numbers f g ≡ true → f ≡ g
 unfolding same-numbers
@@ -199,26 +238,28 @@ entries-from-test (e ∷ es) (g ∷ gs) h =
 pub meets-holds : (c : Case) → meets c ≡ true → Holds c
 unfolding meets Holds
 meets-holds (coded bs rs) h =
-    let s = and-split (accepted bs) (is-least-code kinds-before (drawing-in bs) rs) h in
-    (s .0, least-from-test kinds-before kinds-order (drawing-in bs) (accepted-pattern bs (s .0)) rs (s .1))
+    let s = and-split (accepted bs) (is-least-section (drawing-in bs) rs) h in
+    (s .0, least-section-from-test (drawing-in bs) (accepted-section bs (s .0)) rs (s .1))
 meets-holds (other-code bs rs) h =
     let d = drawing-in bs in
-    let s = and-split (accepted bs) (is-code-of d rs && not (is-least-code kinds-before d rs)) h in
-    let t = and-split (is-code-of d rs) (not (is-least-code kinds-before d rs)) (s .1) in
+    let s = and-split (accepted bs) (has-cables d && (is-code-of d rs && not (is-least-code kinds-before d rs))) h in
+    let u = and-split (has-cables d) (is-code-of d rs && not (is-least-code kinds-before d rs)) (s .1) in
+    let t = and-split (is-code-of d rs) (not (is-least-code kinds-before d rs)) (u .1) in
     let other = not-true (is-least-code kinds-before d rs) (t .1) in
-    let to-test = least-to-test kinds-before kinds-order d (accepted-pattern bs (s .0)) rs in
-    (s .0, code-from-test d rs (t .0), λ l. true-and-false (to-test l) other)
-meets-holds (refused-code bs n) h = eqb-true (code-refusal bs) n h
+    let pattern = with-cables d (accepted-section bs (s .0)) (u .0) in
+    let to-test = least-to-test kinds-before kinds-order d pattern rs in
+    (s .0, code-from-test d rs (t .0), λ l. true-and-false (to-test (pattern-least kinds-before pattern l)) other)
+meets-holds (refused-code bs n) h = eqb-true (section-code-refusal bs) n h
 meets-holds (matched ps ds f) h =
     let s = and-split (accepted ps) (accepted ds && is-map (least-map (drawing-in ps) (drawing-in ds)) f) h in
     let t = and-split (accepted ds) (is-map (least-map (drawing-in ps) (drawing-in ds)) f) (s .1) in
-    (s .0, t .0, map-from-test (drawing-in ps) (drawing-in ds) f (accepted-pattern ps (s .0) .simple .ends) (t .1))
+    (s .0, t .0, map-from-test (drawing-in ps) (drawing-in ds) f (accepted-section ps (s .0) .simple .ends) (t .1))
 meets-holds (not-contained ps ds) h =
     let p = drawing-in ps in
     let d = drawing-in ds in
     let s = and-split (accepted ps) (accepted ds && not (contains p d)) h in
     let t = and-split (accepted ds) (not (contains p d)) (s .1) in
-    let ends = accepted-pattern ps (s .0) .simple .ends in
+    let ends = accepted-section ps (s .0) .simple .ends in
     (s .0, t .0, λ g m. true-and-false (contains-from-embedding p d g ends (embedding-from-test p d g m)) (not-true (contains p d) (t .1)))
 meets-holds (catalogued bs s l es) h =
     let grown = mined-entries kinds-before (survey bs) s l in

@@ -18,7 +18,7 @@ use Rattle.growth.specs.Frequent.{Frequent}
 use Rattle.growth.specs.PlacedRecords.{alone}
 use Rattle.growth.specs.CountingExtensions.{First-of, Counting}
 use Rattle.growth.specs.ListedBy.{Chosen-places, Chosen-cells, place-in, records-at, chosen-places, listed-join}
-use Rattle.growth.specs.Firsts.{Firsts, firsts-none, firsts-skip, firsts-apart, firsts-next, firsts-listed}
+use Rattle.growth.specs.Firsts.{firsts-none, firsts-skip, firsts-apart, firsts-next, firsts-listed}
 use Rattle.growth.specs.Walking.{Ahead-of}
 use Rattle.growth.specs.Sizes.{candidates-size}
 use Rattle.growing.specs.declared.grow.Growth.{Growth}
@@ -27,7 +27,7 @@ use Rattle.growing.specs.declared.grow.Settings.{Settings}
 use Rattle.walks.specs.LabelMarks.{drawings-of}
 use Rattle.walks.specs.Counts.{Blank}
 use Rattle.walks.specs.Prepared.{Counted-cells}
-use Rattle.walks.specs.PreparedLaws.{prepared-few, prepared-patterns}
+use Rattle.walks.specs.PreparedLaws.{prepared-few, prepared-sections}
 use Rattle.laws.specs.Parts.{part}
 use Rattle.walks.specs.Choices.{Of-sets, Can-choose, Chose}
 use Rattle.growing.specs.GrowthOutcomes.{Fit, Can-walk-candidates, Candidates-walked}
@@ -149,7 +149,7 @@ module _ {survey labels rank alphabet : List ℕ} {g : Settings} (a : Can-mine s
                 let s = w .listed .sound x i .2 in
                 subst (λ (z : List Rec). before-by kinds-before z (e ∷ []) ≡ true) (sym (s .0 .is))
                 (difference-decides kinds-before kinds-order [] (s .0 .e) e (s .0 .more) []
-                (firsts-apart (a .set-up .one) (w .first) (prepared-patterns (a .set-up .prepared)) (a .set-up .prepared .ranks)
+                (firsts-apart (a .set-up .one) (w .first) (prepared-sections (a .set-up .prepared)) (a .set-up .prepared .ranks)
                 (c .counting) chosen (s .0 .e) e (s .1) m));
           }
 
@@ -177,11 +177,11 @@ module _ {survey labels rank alphabet : List ℕ} {g : Settings} (a : Can-mine s
               codes = w .codes ++ x .more;
               first =
                   rw add-one
-                  (firsts-next (a .set-up .one) (w .first) (prepared-patterns (a .set-up .prepared)) (a .set-up .prepared .ranks)
+                  (firsts-next (a .set-up .one) (w .first) (prepared-sections (a .set-up .prepared)) (a .set-up .prepared .ranks)
                   (c .counting) chosen);
               listed =
                   listed-join kinds-before kinds-order Wanted (g .limit) [] (w .firsts) news (w .codes) (x .more)
-                  (firsts-apart (a .set-up .one) (w .first) (prepared-patterns (a .set-up .prepared)) (a .set-up .prepared .ranks)
+                  (firsts-apart (a .set-up .one) (w .first) (prepared-sections (a .set-up .prepared)) (a .set-up .prepared .ranks)
                   (c .counting) chosen) (w .listed) (x .which);
               lists = x .lists;
             }
@@ -199,7 +199,7 @@ module _ {survey labels rank alphabet : List ℕ} {g : Settings} (a : Can-mine s
   mine-ends e w =
       record {
         more = w .codes;
-        which = firsts-listed (a .set-up .one) (w .first) (prepared-patterns (a .set-up .prepared)) e (g .limit) (w .codes) (w .listed);
+        which = firsts-listed (a .set-up .one) (w .first) (prepared-sections (a .set-up .prepared)) e (g .limit) (w .codes) (w .listed);
         lists = w .lists;
         room = w .room;
       }

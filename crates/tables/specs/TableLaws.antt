@@ -26,7 +26,7 @@ use Rattle.graphs.specs.Cables.{
   Last,
   last-cases,
 }
-use Rattle.graphs.specs.Graph.{Distinct, Pattern}
+use Rattle.graphs.specs.Graph.{Distinct, Section}
 use Rattle.graphs.specs.Patterns.{byte-list-at}
 use Rattle.codes.specs.BranchState.{label-of, label-at, Labels}
 use Rattle.tables.specs.Tables.{first-cables, Table, put-cable}
@@ -54,7 +54,7 @@ cell-differs : {u v a b : ℕ} → v < 10 → b < 10 → (u ≡ a → v ≡ b �
 cell-differs {u} {v} {a} {b} p q n e = n (omega arith) (omega arith)
 
 -- A TABLE of no cables
-pub table-start : (d : Drawing) → Pattern d → Table (first-cables d 0) (replicate 100 0)
+pub table-start : (d : Drawing) → Section d → Table (first-cables d 0) (replicate 100 0)
 table-start d p =
     record {
       size = refl;
@@ -151,7 +151,7 @@ module _ (ks : List ℕ) (cs : List Cable) (c : Cable) (t : List ℕ) (T : Table
           }
 
 -- OF A PATTERN, cable k
-module _ (d : Drawing) (p : Pattern d) where
+module _ (d : Drawing) (p : Section d) where
   module _ (k : ℕ) (c : Cable) (h : k < length (d .cables)) (is : getD (d .cables) k c ≡ c) where
     whole : d .cables ≡ take k (d .cables) ++ c ∷ drop (suc k) (d .cables)
     whole = split-at (d .cables) k c h ∙ ap (λ (x : Cable). take k (d .cables) ++ x ∷ drop (suc k) (d .cables)) is

@@ -6,7 +6,8 @@ use native.Mathlib.Omega.{arith}
 use lib.ListN.{length, getD}
 use Rattle.laws.specs.Rows.{row, row-at}
 use Rattle.graphs.specs.Drawing.{devices}
-use Rattle.graphs.specs.Graph.{Pattern}
+use Rattle.graphs.specs.Graph.{Section, Pattern}
+use Rattle.graphs.specs.Sections.{pattern-section}
 use Rattle.codes.specs.Code.{Rec, rec-in, cable-of, decoded, code-refusal}
 use Rattle.codes.specs.Decoded.{rows-bytes, decoded-pattern, decoded-kinds-bytes}
 use Rattle.codes.specs.CodeBytes.{accepted-code}
@@ -28,6 +29,9 @@ module _ {bs : List ℕ} (A : Byte-code bs) where
       let a = accepted-code bs (A .accepted) in
       decoded-pattern (code-records bs) (a .good) (decoded-kinds-bytes (code-records bs) (rw (a .bytes) (bytes-list bs (λ i h. A .bytes i))))
 
+  pub code-section : Section (decoded (code-records bs))
+  code-section = pattern-section code-pattern
+
   -- RECORD k of the code
   module _ (k : ℕ) (h : k < length bs / 5) {r : Rec} (is : r ≡ rec-in (row 5 k bs)) where
     below : k < length (decoded (code-records bs) .cables)
@@ -35,14 +39,14 @@ module _ {bs : List ℕ} (A : Byte-code bs) where
 
     ends : (r .i < devices (decoded (code-records bs))) × (r .j < devices (decoded (code-records bs)))
     unfolding cable-of
-    ends = cable-ends (decoded (code-records bs)) code-pattern k (cable-of r) below (record-cable bs k h r is)
+    ends = cable-ends (decoded (code-records bs)) code-section k (cable-of r) below (record-cable bs k h r is)
 
     kind-low : r .c < 256
     unfolding rec-in
     kind-low = rw (is, row-at 5 k bs 3 0 (omega arith)) (A .bytes (5 * k + 3))
 
     pub record-low : (r .i < 10) × (r .j < 10) × (r .c < 256)
-    record-low = (omega (arith, ends .0, code-pattern .devices-high), omega (arith, ends .1, code-pattern .devices-high), kind-low)
+    record-low = (omega (arith, ends .0, code-section .devices-high), omega (arith, ends .1, code-section .devices-high), kind-low)
 
     pub code-turn :
         {t : List ℕ} → Table (first-cables (decoded (code-records bs)) k) t
@@ -50,8 +54,8 @@ module _ {bs : List ℕ} (A : Byte-code bs) where
     unfolding cable-of
     code-turn {t} T =
         rw (← record-i-kind bs k h r is (A .accepted), ← record-j-kind bs k h r is (A .accepted))
-        (table-next (decoded (code-records bs)) code-pattern k (cable-of r) below (record-cable bs k h r is) t kind-low T)
+        (table-next (decoded (code-records bs)) code-section k (cable-of r) below (record-cable bs k h r is) t kind-low T)
 
   pub code-done :
       (k : ℕ) {t : List ℕ} → k ≡ length bs / 5 → Table (first-cables (decoded (code-records bs)) k) t → Labels (decoded (code-records bs)) t
-  code-done k {t} e T = table-end (decoded (code-records bs)) code-pattern k t (e ∙ sym (code-cables bs)) T
+  code-done k {t} e T = table-end (decoded (code-records bs)) code-section k t (e ∙ sym (code-cables bs)) T

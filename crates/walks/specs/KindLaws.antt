@@ -1,12 +1,12 @@
 -- The kinds that occur in a survey, place by place and drawing by drawing. Rests on Kinds. Assumes nothing.
-use mathlib.Core.Path.{_≡_, refl, sym, ap, _∙_, subst}
+use mathlib.Core.Path.{_≡_, sym, ap, _∙_, subst}
 use mathlib.Core.Bool.{Bool, true, false}
 use mathlib.Core.List.{List, []}
-use Prim.Native.Nat.{ℕ, _+_, _*_, _-_, _≤_, _<_}
+use Prim.Native.Nat.{ℕ, _+_, _-_, _<_}
 use native.Mathlib.Nat.{not-suc-le-zero}
 use native.Mathlib.Omega.{arith}
 use native.Mathlib.Decide.{ℕ-discrete, decLt}
-use lib.ListN.{length, getD, take, drop, set, length-set}
+use lib.ListN.{length, getD, set, length-set}
 use lib.Seq.{getD-set-same, getD-set-other}
 use Rattle.laws.specs.Tests.{true-and-false}
 use Rattle.laws.specs.Lists.{Mem, place}
@@ -19,7 +19,7 @@ use Rattle.growth.specs.CountingExtensions.{First-of}
 use Rattle.graphs.specs.Survey.{drawing-count}
 use Rattle.walks.specs.LabelMarks.{drawings-of}
 use Rattle.walks.specs.Prepared.{Prepared}
-use Rattle.walks.specs.PreparedLaws.{drawings-counted, drawing-read, prepared-accepted, prepared-pattern}
+use Rattle.walks.specs.PreparedLaws.{drawings-counted, drawing-read, prepared-accepted, prepared-section}
 use Rattle.walks.specs.Kinds.{Noted, Occurs-before, Occurs}
 
 -- ONE NOTE MORE: what was noted is
@@ -79,7 +79,7 @@ no-first {survey} {marks = marks} p o k none d e m f =
     let is : drawing-in (row 72 (i .i) survey) ≡ d = sym (drawing-read survey (i .i) l) ∙ i .is in
     let c = fits-first d e (f .0) in
     let u-kind : kind d (c .u) ≡ k = ap (λ (x : Rec). x .ki) (c .record-is) ∙ f .1 in
-    let w = prepared-pattern p (i .i) l in
+    let w = prepared-section p (i .i) l in
     let u-low : c .u < devices (drawing-in (row 72 (i .i) survey)) =
     subst (λ (x : Drawing). c .u < devices x) (sym is) (subst (λ (x : Drawing). Rattle.graphs.specs.Embedding.Ends-in-range x) is
     (w .simple .ends) (c .u) (c .w) (c .k) (c .has)) in

@@ -88,9 +88,7 @@ pub fn check_survey(survey: &[u8]) -> Answer {
 pub fn code(drawing: &[u8], lent: &[u8]) -> Answer {
     match Drawing::read(drawing) {
         Err(number) => Answer::refused(Refused::of(number), FIRST, lent),
-        Ok(read) if lent.len() < code::RECORD * read.cables.len() => {
-            Answer::refused(Refused::of(15), FIRST, lent)
-        }
+        Ok(read) if lent.len() < code::size(&read) => Answer::refused(Refused::of(15), FIRST, lent),
         Ok(read) => {
             let bytes = code::bytes(&code::least(&read));
             Answer::written("written", bytes.len(), &bytes, lent)

@@ -4,6 +4,7 @@
 use holvreiz::raw;
 use holvreiz_differential::answers::{self, Answer};
 use holvreiz_differential::catalogue::{Codes, ENTRY};
+use holvreiz_differential::lone;
 use holvreiz_differential::random::Random;
 use holvreiz_differential::shims::{Came, Given, SHIMS};
 use std::collections::{BTreeMap, BTreeSet};
@@ -14,11 +15,12 @@ pub fn refused(number: u8, whose: &str) -> String {
     format!("refused {number:2}{whose}")
 }
 
-fn outcome(answer: &Answer) -> String {
-    match answer.refused.number {
+fn outcome(given: &Given, answer: &Answer) -> String {
+    let outcome = match answer.refused.number {
         0 => answer.said.to_string(),
         number => refused(number, answer.said),
-    }
+    };
+    outcome + lone::near(given.call, given.first, given.second, answer)
 }
 
 /// The number that a call returns. It names a drawing at fault, but no record of a code.
@@ -82,7 +84,7 @@ impl Calls {
         } = given;
         let before = self.random.bytes(room + 2 * GUARD);
         let expected = expect(&before[GUARD..GUARD + room]);
-        let outcome = outcome(&expected);
+        let outcome = outcome(&given, &expected);
         let mut after = before.clone();
         let number = run(&mut after[GUARD..GUARD + room]);
         let output = &after[GUARD..GUARD + room];

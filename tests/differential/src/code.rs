@@ -19,6 +19,17 @@ pub struct Record {
 pub type Code = Vec<Record>;
 
 impl Record {
+    /// The one record of a drawing without cables.
+    fn lone(kind: u8) -> Record {
+        Record {
+            i: 0,
+            j: 0,
+            ki: kind,
+            c: 0,
+            kj: kind,
+        }
+    }
+
     fn is_forward(&self) -> bool {
         self.i < self.j
     }
@@ -40,6 +51,19 @@ impl Record {
 
 pub fn bytes(code: &[Record]) -> Vec<u8> {
     code.iter().flat_map(Record::bytes).collect()
+}
+
+/// The bytes that the codes of a drawing have: a record for each cable, and one for a lone device.
+pub fn size(drawing: &Drawing) -> usize {
+    RECORD * drawing.cables.len().max(1)
+}
+
+/// The kind of the device, if a code is of a lone one.
+fn lone_kind(code: &[Record]) -> Option<u8> {
+    match code {
+        [record] if record.i == record.j => Some(record.ki),
+        _ => None,
+    }
 }
 
 /// The devices of a code as far as it is read: the kind of each, and the one that it was reached from.
@@ -96,10 +120,24 @@ impl Reading {
     }
 }
 
+/// The one record of a lone device: devices 0, 0, no cable kind, and the kind of the device twice.
+fn read_lone(record: Record) -> Result<Code, Refused> {
+    if record.c != 0 {
+        return Err(Refused::of(10));
+    }
+    if record.ki != record.kj {
+        return Err(Refused::of(11));
+    }
+    Ok(vec![record])
+}
+
 /// The records of a code, or the first refusal that applies, with the record at fault.
 pub fn read(bytes: &[u8]) -> Result<Code, Refused> {
     if bytes.is_empty() || bytes.len() > RECORD * MOST_CABLES || bytes.len() % RECORD != 0 {
         return Err(Refused::of(9));
+    }
+    if bytes.len() == RECORD && bytes[..2] == [0, 0] {
+        return read_lone(Record::from_bytes(bytes));
     }
     let mut code: Code = Vec::new();
     let mut reading = Reading::default();
@@ -118,6 +156,12 @@ pub fn read(bytes: &[u8]) -> Result<Code, Refused> {
 
 /// The drawing that a code describes: devices as it numbers them, cables in record order, ends as i then j.
 pub fn described(code: &[Record]) -> Drawing {
+    if let Some(kind) = lone_kind(code) {
+        return Drawing {
+            kinds: vec![kind],
+            cables: Vec::new(),
+        };
+    }
     let forward = code.iter().filter(|record| record.is_forward());
     Drawing {
         kinds: std::iter::once(code[0].ki)
@@ -145,8 +189,15 @@ fn order_of_records(a: &Record, b: &Record) -> Ordering {
     }
 }
 
-/// At the first record that differs; a code that begins another comes before it.
+/// Codes of lone devices come before all others, and stand by their kinds. Else at the first record that differs; a code that
+/// begins another comes before it.
 pub fn order(first: &[Record], second: &[Record]) -> Ordering {
+    match (lone_kind(first), lone_kind(second)) {
+        (Some(a), Some(b)) => return a.cmp(&b),
+        (Some(_), None) => return Ordering::Less,
+        (None, Some(_)) => return Ordering::Greater,
+        (None, None) => (),
+    }
     let differing = first.iter().zip(second).find(|(a, b)| a != b);
     match differing {
         Some((a, b)) => order_of_records(a, b),
@@ -227,6 +278,9 @@ impl Walk<'_> {
 
     /// The records of the devices as they are numbered.
     fn code(&self) -> Code {
+        if let [kind] = self.drawing.kinds[..] {
+            return vec![Record::lone(kind)];
+        }
         let mut code = Vec::with_capacity(self.drawing.cables.len());
         for w in 1..self.numbered.len() {
             let parent = (0..w).rev().find(|&i| self.record(i, w).is_some());

@@ -60,10 +60,11 @@ impl Drawing {
             return Err(1);
         }
         let (n, m) = (usize::from(record[0]), usize::from(record[1]));
-        if !(2..=MOST_DEVICES).contains(&n) {
+        if !(1..=MOST_DEVICES).contains(&n) {
             return Err(2);
         }
-        if !(1..=MOST_CABLES).contains(&m) {
+        let permitted = if n == 1 { 0..=0 } else { 1..=MOST_CABLES };
+        if !permitted.contains(&m) {
             return Err(3);
         }
         let (kinds, unused_kinds) = record[KINDS_AT..CABLES_AT].split_at(n);

@@ -154,6 +154,14 @@ pub fn symmetric() -> Vec<Drawing> {
     shapes.iter().map(|pairs| plain(pairs)).collect()
 }
 
+/// One device of a drawing alone.
+pub fn device(random: &mut Random, drawing: &Drawing) -> Drawing {
+    Drawing {
+        kinds: vec![*random.pick(&drawing.kinds)],
+        cables: Vec::new(),
+    }
+}
+
 /// Kind 1 and cable 5 throughout.
 pub fn plain(pairs: &[(usize, usize)]) -> Drawing {
     let devices = pairs
@@ -173,6 +181,9 @@ pub fn plain(pairs: &[(usize, usize)]) -> Drawing {
 
 /// A pattern that the drawing contains: some of its cables, taken up one after another from any, and their devices.
 pub fn part(random: &mut Random, drawing: &Drawing) -> Drawing {
+    if drawing.cables.is_empty() {
+        return drawing.clone();
+    }
     let size = random.between(1, drawing.cables.len());
     let mut left = drawing.cables.clone();
     random.shuffle(&mut left);
@@ -212,6 +223,10 @@ pub fn part(random: &mut Random, drawing: &Drawing) -> Drawing {
 /// A drawing that differs little: a kind changed, a cable moved, or a cable less, if it stays a drawing.
 pub fn neighbour(random: &mut Random, drawing: &Drawing) -> Drawing {
     let mut other = drawing.clone();
+    if other.cables.is_empty() {
+        other.kinds[0] ^= 1;
+        return other;
+    }
     let cable = random.below(other.cables.len());
     match random.below(4) {
         0 => other.kinds[random.below(drawing.devices())] ^= 1,
@@ -226,9 +241,26 @@ pub fn neighbour(random: &mut Random, drawing: &Drawing) -> Drawing {
 pub fn damaged_record(random: &mut Random, drawing: &Drawing) -> Vec<u8> {
     let mut record = drawing.record();
     for _ in 0..random.between(1, 3) {
-        damage_record(random, drawing, &mut record);
+        match drawing.cables.len() {
+            0 => damage_lone(random, &mut record),
+            _ => damage_record(random, drawing, &mut record),
+        }
     }
     record
+}
+
+/// Counts that do not go together, an unused byte, or another length.
+fn damage_lone(random: &mut Random, record: &mut Vec<u8>) {
+    let (place, value) = match random.below(5) {
+        0 => (0, *random.pick(&[0, 2, 10, 11])),
+        1 => (1, random.between(1, 21)),
+        2 => (random.between(3, 11), 1),
+        3 => (random.between(12, RECORD - 1), 1),
+        _ => return record.truncate(RECORD - 1),
+    };
+    if let Some(byte) = record.get_mut(place) {
+        *byte = value as u8;
+    }
 }
 
 fn damage_record(random: &mut Random, drawing: &Drawing, record: &mut Vec<u8>) {
@@ -313,7 +345,7 @@ fn damage_code(random: &mut Random, bytes: &mut Vec<u8>) {
         return;
     }
     let at = code::RECORD * random.below(records);
-    match random.below(9) {
+    match random.below(11) {
         0 => bytes.truncate(random.below(bytes.len())),
         1 => bytes.push(0),
         2 => bytes.extend(vec![0; 100]),
@@ -321,6 +353,8 @@ fn damage_code(random: &mut Random, bytes: &mut Vec<u8>) {
         4 => bytes.swap(at, at + 1),
         5 | 6 => bytes[at + random.between(2, 4)] ^= 1,
         7 => repeat_record(bytes, at),
+        8 => bytes[at..at + 2].fill(0),
+        9 => put_lone(bytes, at),
         _ => *bytes = [&bytes[..at], &bytes[at + code::RECORD..]].concat(),
     }
 }
@@ -329,4 +363,10 @@ fn damage_code(random: &mut Random, bytes: &mut Vec<u8>) {
 fn repeat_record(bytes: &mut Vec<u8>, at: usize) {
     let record = bytes[at..at + code::RECORD].to_vec();
     bytes.splice(at..at, record);
+}
+
+/// The record of a lone device in front of another record.
+fn put_lone(bytes: &mut Vec<u8>, at: usize) {
+    let kind = bytes[at + 2];
+    bytes.splice(at..at, [0, 0, kind, 0, kind]);
 }

@@ -5,6 +5,7 @@ pub mod catalogue;
 pub mod code;
 pub mod drawing;
 pub mod generate;
+pub mod lone;
 pub mod map;
 pub mod random;
 pub mod refused;

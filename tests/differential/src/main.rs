@@ -7,9 +7,11 @@ mod calls;
 
 use calls::{refused, Calls};
 use holvreiz_differential::answers::{FIRST, LATER, SECOND};
+use holvreiz_differential::catalogue::ENTRY;
 use holvreiz_differential::code;
 use holvreiz_differential::drawing::{self, Drawing, RECORD};
 use holvreiz_differential::generate::{self, Shape};
+use holvreiz_differential::lone;
 use holvreiz_differential::random::Random;
 use holvreiz_differential::shims::SHIMS;
 use std::collections::HashSet;
@@ -41,15 +43,27 @@ const PLAIN: Shape = Shape {
     most_cables: 12,
     kinds: 1,
 };
+const LONE: Shape = Shape {
+    devices: (1, 1),
+    most_cables: 0,
+    kinds: 2,
+};
 
-/// Mostly small drawings, which take little time; now and then one as large as they get.
+/// Mostly small drawings, which take little time; now and then one as large as they get, or a lone device.
 fn any_shape(random: &mut Random) -> Shape {
     match random.below(100) {
         0 => LARGE,
         1..=10 => MIDDLE,
         11..=40 => PLAIN,
+        41..=50 => LONE,
         _ => SMALL,
     }
+}
+
+/// A small drawing, now and then a lone device.
+fn small(random: &mut Random) -> Drawing {
+    let shape = if random.once_in(5) { LONE } else { SMALL };
+    generate::drawing(random, shape)
 }
 
 /// Just enough bytes, one too few, more, or none.
@@ -68,13 +82,16 @@ fn accepted_drawings(calls: &mut Calls, random: &mut Random, drawings: &[Drawing
         let other = generate::redrawn(random, drawing);
         let near = generate::neighbour(random, &other);
         for drawn in [drawing, &other] {
-            let needed = code::RECORD * drawn.cables.len();
+            let needed = code::size(drawn);
             let room = room(random, needed);
             calls.code(&drawn.record(), room);
             calls.code(&drawn.record(), needed);
         }
         calls.same(&drawing.record(), &other.record());
         calls.same(&drawing.record(), &near.record());
+        let device = generate::device(random, drawing);
+        calls.same(&drawing.record(), &device.record());
+        calls.same(&device.record(), &drawing.record());
         calls.is_least(&code::bytes(&code::least(drawing)));
     }
 }
@@ -82,8 +99,8 @@ fn accepted_drawings(calls: &mut Calls, random: &mut Random, drawings: &[Drawing
 /// Records with faults, alone and as one of two.
 fn damaged_drawings(calls: &mut Calls, random: &mut Random, times: usize) {
     for _ in 0..times {
-        let drawing = generate::drawing(random, SMALL);
-        let fine = generate::drawing(random, SMALL).record();
+        let drawing = small(random);
+        let fine = small(random).record();
         let damaged = match random.below(8) {
             0 => generate::apart(random),
             _ => generate::damaged_record(random, &drawing),
@@ -108,12 +125,13 @@ fn codes(calls: &mut Calls, random: &mut Random, times: usize) {
         let begin = code::bytes(&code[..random.between(1, code.len())]);
         let other = code::bytes(&generate::any_code(random, &drawing));
         let damaged = generate::damaged_code(random, &code);
+        let lone = code::bytes(&code::least(&generate::drawing(random, LONE)));
         for bytes in [&fine, &begin, &damaged] {
             let room = room(random, RECORD);
             calls.decode(bytes, room);
             calls.is_least(bytes);
         }
-        let all = [&fine, &begin, &other, &damaged];
+        let all = [&fine, &begin, &other, &damaged, &lone];
         for first in all {
             let second = random.pick(&all);
             calls.compare(first, second);
@@ -121,7 +139,8 @@ fn codes(calls: &mut Calls, random: &mut Random, times: usize) {
     }
 }
 
-/// Patterns that are parts of a drawing, drawn otherwise; such parts with one thing changed; and any two drawings.
+/// Patterns that are parts of a drawing, drawn otherwise; such parts with one thing changed; any two drawings; and a device alone, of
+/// a kind that the drawing has, and of one that it may lack.
 fn matches(calls: &mut Calls, random: &mut Random, times: usize) {
     for _ in 0..times {
         let shape = any_shape(random);
@@ -130,7 +149,9 @@ fn matches(calls: &mut Calls, random: &mut Random, times: usize) {
         let part = generate::redrawn(random, &part);
         let near = generate::neighbour(random, &part);
         let any = generate::drawing(random, PLAIN);
-        for pattern in [&part, &near, &any] {
+        let device = generate::device(random, &drawing);
+        let other = generate::neighbour(random, &device);
+        for pattern in [&part, &near, &any, &device, &other] {
             let room = room(random, pattern.devices());
             calls.match_drawing(&pattern.record(), &drawing.record(), room);
         }
@@ -193,8 +214,14 @@ mod surveys {
         });
         let all_alike = generate::drawing_of(random, 10, 12, 2).record().repeat(32);
         calls.catalogue(&all_alike, 32, 6, |needed| needed);
-        let many = survey_of(random, 32, 10, 20, 16);
-        calls.catalogue(&many, 1, 4, |needed| needed + 1);
+        // No two are alike, which makes over 20,000 entries certain.
+        let many: Vec<Drawing> = (0..32)
+            .map(|_| generate::drawing_of(random, 10, 20, 16))
+            .collect();
+        calls.catalogue(&records(&many), 1, 4, |needed| {
+            assert!(20_000 * ENTRY < needed);
+            needed + 1
+        });
         let mut last_at_fault = survey_of(random, 32, 10, 20, 3);
         last_at_fault[31 * RECORD + 1] = 0;
         calls.catalogue(&last_at_fault, 2, 4, |needed| needed);
@@ -242,18 +269,19 @@ mod surveys {
         records(&survey)
     }
 
-    /// Drawings that have much in common: neighbours of a few.
+    /// Drawings that have much in common, neighbours of a few, and some lone devices, in any order.
     fn survey(random: &mut Random, drawings: usize, shape: Shape) -> Vec<Drawing> {
         let mut survey = vec![generate::drawing(random, shape)];
         while survey.len() < drawings {
             let last = &survey[random.below(survey.len())];
-            let next = if random.once_in(3) {
-                generate::drawing(random, shape)
-            } else {
-                generate::neighbour(random, last)
+            let next = match random.below(12) {
+                0 => generate::drawing(random, LONE),
+                1..=4 => generate::drawing(random, shape),
+                _ => generate::neighbour(random, last),
             };
             survey.push(generate::redrawn(random, &next));
         }
+        random.shuffle(&mut survey);
         survey
     }
 
@@ -302,7 +330,7 @@ mod surveys {
 
     /// A drawing's record, now and then with faults, but of the right length.
     fn record(random: &mut Random) -> Vec<u8> {
-        let drawing = generate::drawing(random, SMALL);
+        let drawing = small(random);
         let mut record = match random.below(12) {
             0 => generate::damaged_record(random, &drawing),
             1 if random.once_in(4) => generate::apart(random),
@@ -351,6 +379,62 @@ fn outcomes() -> Vec<(&'static str, String)> {
         refusals("catalogue", &[12, 13, 14], FIRST);
         refusals("catalogue", OF_THE_OUTPUT, FIRST);
     }
+    outcomes.extend(lone_outcomes());
+    outcomes
+}
+
+/// Those that lone devices bring, and what is refused near them: 3 where the counts do not go together, 10 and 11 of record 0, 0.
+fn lone_outcomes() -> Vec<(&'static str, String)> {
+    let mut outcomes = Vec::new();
+    let mut answers = |call: &'static str, answers: &[&str], near: &str| {
+        outcomes.extend(answers.iter().map(|said| (call, format!("{said}{near}"))));
+    };
+    answers("code", &["written"], lone::LONE);
+    answers("decode", &["written"], lone::LONE);
+    answers("is_least", &["yes"], lone::LONE);
+    answers("compare", &["equal", "before", "after"], lone::BOTH_LONE);
+    answers("compare", &["before"], lone::FIRST_LONE);
+    answers("compare", &["after"], lone::SECOND_LONE);
+    answers("match", &["map", "not contained"], lone::BOTH_LONE);
+    answers("match", &["map", "not contained"], lone::FIRST_LONE);
+    answers("match", &["not contained"], lone::SECOND_LONE);
+    answers("same", &["yes", "no"], lone::BOTH_LONE);
+    answers("same", &["no"], lone::FIRST_LONE);
+    answers("same", &["no"], lone::SECOND_LONE);
+    answers("catalogue", &["entries", "no entry"], lone::SOME_LONE);
+    answers("catalogue", &["no entry"], lone::ALL_LONE);
+
+    let mut refusals = |call: &'static str, number: u8, whose: &str, near: &str| {
+        outcomes.push((call, refused(number, whose) + near));
+    };
+    for (call, whose) in [
+        ("code", FIRST),
+        ("match", FIRST),
+        ("match", SECOND),
+        ("same", FIRST),
+        ("same", SECOND),
+        ("catalogue", FIRST),
+        ("catalogue", LATER),
+    ] {
+        refusals(call, 3, whose, lone::CABLES);
+        refusals(call, 3, whose, lone::NO_CABLE);
+        refusals(call, 7, whose, lone::LONE);
+    }
+    for (call, whose) in [
+        ("decode", FIRST),
+        ("is_least", FIRST),
+        ("compare", FIRST),
+        ("compare", SECOND),
+    ] {
+        refusals(call, 10, whose, lone::LONE);
+        refusals(call, 11, whose, lone::LONE);
+        refusals(call, 10, whose, lone::IN_FRONT);
+        refusals(call, 10, whose, lone::BEHIND);
+    }
+    for call in ["code", "decode", "match"] {
+        refusals(call, 15, FIRST, lone::LONE);
+    }
+    refusals("catalogue", 15, FIRST, lone::SOME_LONE);
     outcomes
 }
 
@@ -358,7 +442,7 @@ fn outcomes() -> Vec<(&'static str, String)> {
 fn report(calls: &Calls) -> Vec<(&'static str, String)> {
     let mut total = 0;
     for ((call, outcome), times) in calls.seen() {
-        println!("{call:10} {outcome:28} {times:7}");
+        println!("{call:10} {outcome:46} {times:7}");
         total += times;
     }
     println!("{total} calls, each as expected");
@@ -387,6 +471,7 @@ fn run(calls: &mut Calls, seed: u64) {
     surveys::accepted(calls, random, 200, SMALL, 12);
     surveys::accepted(calls, random, 100, PLAIN, 12);
     surveys::accepted(calls, random, 20, MIDDLE, 32);
+    surveys::accepted(calls, random, 20, LONE, 32);
     surveys::damaged(calls, random, 3000);
     surveys::largest(calls, random);
     surveys::label_counts(calls, random);

@@ -74,6 +74,10 @@ fn cables(drawing: &[u8]) -> u8 {
     drawing.get(1).copied().unwrap_or(0)
 }
 
+fn is_lone_code(code: &[u8]) -> bool {
+    code.len() == 5 && code[..2] == [0, 0]
+}
+
 /// The records of an entry.
 fn records(entry: &[u8]) -> std::slice::Chunks<'_, u8> {
     entry[2..][..5 * usize::from(entry[0])].chunks(5)
@@ -127,6 +131,20 @@ pub const SHIMS: &[(&str, &str, Spoil)] = &[
             came.spoil(came.output.len().wrapping_sub(1));
         }
     }),
+    ("code", "lone devices, the second kind", |given, came| {
+        if came.answered() && devices(given.first) == 1 {
+            came.spoil(4);
+        }
+    }),
+    (
+        "code",
+        "3 of one device with cables told as 2",
+        |given, came| {
+            if came.refusal() == 3 && devices(given.first) == 1 {
+                came.set_refusal(2);
+            }
+        },
+    ),
     ("decode", "the kind of a tenth device", |_, came| {
         if came.answered() && came.output.first() == Some(&10) {
             came.spoil(11);
@@ -150,6 +168,20 @@ pub const SHIMS: &[(&str, &str, Spoil)] = &[
             came.set_refusal(10);
         }
     }),
+    ("decode", "a cable at lone devices", |given, came| {
+        if came.answered() && is_lone_code(given.first) {
+            came.spoil(1);
+        }
+    }),
+    (
+        "decode",
+        "10 of a lone device's record told as 11",
+        |given, came| {
+            if came.refusal() == 10 && is_lone_code(given.first) {
+                came.set_refusal(11);
+            }
+        },
+    ),
     ("is_least", "codes of 20 records", |given, came| {
         if came.answered() && given.first.len() == 100 {
             *came.returned ^= 1;
@@ -157,6 +189,11 @@ pub const SHIMS: &[(&str, &str, Spoil)] = &[
     }),
     ("is_least", "no for codes of ten devices", |given, came| {
         if came.count() == 1 && given.first.chunks(5).any(|r| r[1] == 9) {
+            *came.returned = 0;
+        }
+    }),
+    ("is_least", "no for lone devices", |given, came| {
+        if came.answered() && is_lone_code(given.first) {
             *came.returned = 0;
         }
     }),
@@ -194,6 +231,15 @@ pub const SHIMS: &[(&str, &str, Spoil)] = &[
             }
         },
     ),
+    (
+        "compare",
+        "lone devices after codes with cables",
+        |given, came| {
+            if came.answered() && is_lone_code(given.first) != is_lone_code(given.second) {
+                *came.returned = 3 - *came.returned;
+            }
+        },
+    ),
     ("match", "maps of ten devices", |_, came| {
         if came.answered() && came.count() == 10 {
             came.spoil(9);
@@ -213,6 +259,11 @@ pub const SHIMS: &[(&str, &str, Spoil)] = &[
             && came.count() > 0
             && given.first.get(2).is_some_and(|&kind| kind >= 200)
         {
+            came.spoil(0);
+        }
+    }),
+    ("match", "maps of lone devices", |_, came| {
+        if came.answered() && came.count() == 1 {
             came.spoil(0);
         }
     }),
@@ -238,6 +289,11 @@ pub const SHIMS: &[(&str, &str, Spoil)] = &[
             }
         },
     ),
+    ("same", "yes for any two lone devices", |given, came| {
+        if came.answered() && devices(given.first) == 1 && devices(given.second) == 1 {
+            *came.returned = 1;
+        }
+    }),
     ("same", "4 told as 3", |_, came| {
         if came.refusal() == 4 {
             came.set_refusal(3);
@@ -272,6 +328,24 @@ pub const SHIMS: &[(&str, &str, Spoil)] = &[
         |_, came| {
             if came.count() > 20_000 {
                 came.spoil(42 * 20_000 + 1);
+            }
+        },
+    ),
+    (
+        "catalogue",
+        "supports in surveys with lone devices",
+        |given, came| {
+            if given.first.chunks(RECORD).any(|d| devices(d) == 1) {
+                came.spoil_supports(|_| true);
+            }
+        },
+    ),
+    (
+        "catalogue",
+        "an entry of lone devices alone",
+        |given, came| {
+            if came.answered() && given.first.chunks(RECORD).all(|d| devices(d) == 1) {
+                *came.returned += 1;
             }
         },
     ),

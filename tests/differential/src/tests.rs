@@ -4,6 +4,7 @@ use crate::code::{self, Code, Record};
 use crate::drawing::{Cable, Drawing};
 use crate::generate::plain;
 use crate::map;
+use std::cmp::Ordering;
 
 const PATH: &[(usize, usize)] = &[(0, 1), (1, 2)];
 const TRIANGLE: &[(usize, usize)] = &[(0, 1), (1, 2), (2, 0)];
@@ -73,6 +74,29 @@ fn codes_that_are_refused() {
     assert_eq!(refusal(&[(0, 1), (1, 2), (0, 3), (1, 4)]), Some((10, 3)));
     assert_eq!(refusal(&[(0, 1), (1, 0)]), Some((10, 1)));
     assert_eq!(refusal(&[]), Some((9, 0)));
+}
+
+/// Request R-1.
+#[test]
+fn codes_of_lone_devices() {
+    let lone = |kind: u8| Drawing {
+        kinds: vec![kind],
+        cables: Vec::new(),
+    };
+    let codes = [0, 7, 8, 255].map(|kind| code::least(&lone(kind)));
+    assert_eq!(code::bytes(&codes[1]), [0, 0, 7, 0, 7]);
+    for code in &codes {
+        assert_eq!(code::read(&code::bytes(code)), Ok(code.clone()));
+        assert_eq!(code::described(code), lone(code[0].ki));
+        assert_eq!(code::order(code, &plain_code(PATH)), Ordering::Less);
+        assert_eq!(code::order(&plain_code(PATH), code), Ordering::Greater);
+    }
+    assert!(codes.is_sorted_by(|a, b| code::order(a, b) == Ordering::Less));
+    let refusal = |row: &[u8]| code::read(row).err().map(|refused| refused.number);
+    assert_eq!(refusal(&[0, 0, 7, 1, 7]), Some(10));
+    assert_eq!(refusal(&[0, 0, 7, 0, 8]), Some(11));
+    assert_eq!(refusal(&[0, 0, 7, 1, 8]), Some(10));
+    assert_eq!(refusal(&[0, 0, 7, 0, 7].repeat(2)), Some(10));
 }
 
 #[test]
@@ -150,4 +174,16 @@ fn the_most_patterns() {
     let text = usual_text(include_bytes!("../../program/cases/most_patterns.in"));
     assert!(text == include_str!("../../program/cases/most_patterns.out"));
     assert!(text.ends_with("\n1560 patterns\n"));
+}
+
+/// Lone devices add no entry.
+#[test]
+fn surveys_with_lone_devices() {
+    let text = usual_text(include_bytes!("../../program/cases/lone_among_others.in"));
+    assert_eq!(
+        text,
+        include_str!("../../program/cases/lone_among_others.out")
+    );
+    let text = usual_text(include_bytes!("../../program/cases/lone_alone.in"));
+    assert_eq!(text, include_str!("../../program/cases/lone_alone.out"));
 }

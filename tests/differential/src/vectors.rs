@@ -4,6 +4,7 @@ mod checks;
 mod drawings;
 mod edges;
 mod large;
+mod lone;
 mod notation;
 mod published;
 #[cfg(test)]
@@ -11,6 +12,7 @@ mod tests;
 
 use crate::answers::{self, Answer};
 use crate::catalogue::{Codes, ENTRY};
+use crate::lone::{near, NONE};
 use std::collections::BTreeSet;
 
 /// What every lent byte holds before a call.
@@ -128,18 +130,19 @@ pub struct List {
     seen: BTreeSet<(&'static str, Seen)>,
 }
 
-/// What a call may answer: something in a word, or a refusal and, if it is not the only or the first one's, whose.
+/// What a call may answer: something in a word, or a refusal and, if it is not the only or the first one's, whose; and what is lone
+/// about that which it comes from.
 #[derive(Clone, Copy, Debug, PartialEq, Eq, PartialOrd, Ord)]
 enum Seen {
-    Answer(&'static str),
-    Refusal(u8, &'static str),
+    Answer(&'static str, &'static str),
+    Refusal(u8, &'static str, &'static str),
 }
 
 impl Seen {
-    fn of(answer: &Answer) -> Self {
+    fn of(answer: &Answer, lone: &'static str) -> Self {
         match answer.refused.number {
-            0 => Seen::Answer(answer.said),
-            number => Seen::Refusal(number, answer.said),
+            0 => Seen::Answer(answer.said, lone),
+            number => Seen::Refusal(number, answer.said, lone),
         }
     }
 }
@@ -215,7 +218,8 @@ impl List {
         let parts = call.parts();
         let name = format!("{name}, {}:", parts.word);
         let answer = call.answer(&mut self.codes, &vec![LENT; parts.lent.unwrap_or(0)]);
-        self.seen.insert((parts.word, Seen::of(&answer)));
+        let lone = near(parts.word, parts.first, parts.second, &answer);
+        self.seen.insert((parts.word, Seen::of(&answer, lone)));
         self.put_parts(&name, &parts);
         self.put_line(&name, &answer);
         if parts.lent.is_some() {
@@ -237,8 +241,8 @@ impl List {
         self.text += &name;
         for d in numbers {
             let (opened, fetched) = (answers::open(survey), answers::fetch(survey, d.into()));
-            self.seen.insert(("open", Seen::of(&opened)));
-            self.seen.insert(("fetch", Seen::of(&fetched)));
+            self.seen.insert(("open", Seen::of(&opened, NONE)));
+            self.seen.insert(("fetch", Seen::of(&fetched, NONE)));
             self.put_line(" opened", &opened);
             self.put_line(" fetched", &fetched);
             self.put_bytes(&fetched.output);
@@ -251,6 +255,7 @@ pub fn list() -> List {
     let mut list = List::default();
     drawings::put(&mut list);
     edges::put(&mut list);
+    lone::put(&mut list);
     published::put(&mut list);
     large::put(&mut list);
     list.put_cut();

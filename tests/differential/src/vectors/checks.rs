@@ -91,7 +91,7 @@ impl List {
         self.put(name, call).count
     }
 
-    fn entries(&mut self, asked: &Asked) -> Vec<Entry> {
+    pub fn entries(&mut self, asked: &Asked) -> Vec<Entry> {
         let (threshold, limit) = (asked.threshold.into(), asked.limit.into());
         let entries = self.codes.of_survey(asked.survey, threshold, limit);
         entries.expect("an accepted survey")

@@ -17,7 +17,8 @@ type Refusal = (&'static str, Vec<u8>, u8);
 
 fn refused_drawings() -> Vec<Refusal> {
     vec![
-        ("n 1", changed(0, 1), 2),
+        ("n 0", changed(0, 0), 2),
+        ("n 1", changed(0, 1), 3),
         ("n 11", changed(0, 11), 2),
         ("m 0", changed(1, 0), 3),
         ("m 21", changed(1, 21), 3),
@@ -70,8 +71,8 @@ fn put_drawings(list: &mut List, fine: &[u8]) {
         assert_eq!(answer.refused.number, number, "{name}");
     }
     // The first of two is checked fully before the second, the lower drawing of a survey before the next.
-    let (loose, short) = (drawing("1111", "015 235"), changed(0, 1));
-    let name = "not connected, then n 1";
+    let (loose, short) = (drawing("1111", "015 235"), changed(0, 0));
+    let name = "not connected, then n 0";
     for call in [
         Call::MatchDrawing(&loose, &short, 0),
         Call::Same(&loose, &short),

@@ -1,4 +1,4 @@
--- `reading::check_length` meets its contract: each return has the tests that lead to it. Assumes nothing.
+-- `check::check_length` meets its contract: each return has the tests that lead to it. Assumes nothing.
 use mathlib.Core.Logic.{⊎-elim}
 use borrow.Author.Tests.{eq-eqb, ne-eqb}
 use Rattle.readings.specs.Readings.{code-length-checked}

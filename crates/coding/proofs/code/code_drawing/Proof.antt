@@ -1,5 +1,6 @@
--- `search::code_drawing` meets its contract, refusal by refusal. Assumes nothing.
+-- `code::code_drawing` meets its contract, refusal by refusal. Assumes nothing.
 use mathlib.Core.Path.{_≡_, ap}
+use Prim.Native.Nat.{_≤_}
 use native.Mathlib.Omega.{arith}
 use borrow.Author.Needs.{needs}
 use lib.ListN.{length, getD}
@@ -7,7 +8,7 @@ use Rattle.graphs.specs.Drawing.{drawing-refusal}
 use Rattle.graphs.specs.Patterns.{accepted-parts}
 use Rattle.records.specs.declared.drawing.Drawing.{Drawing}
 use Rattle.records.specs.RefusalLaws.{refused-number, accepted-zero}
-use Rattle.coding.specs.CodeDrawingLaws.{drawing-turned-back, output-turned-back, code-fits, code-written}
+use Rattle.coding.specs.CodeDrawingLaws.{records-few, drawing-turned-back, output-turned-back, code-fits, code-written}
 use Rattle.coding.proofs.code.code_drawing.Statement.{statement}
 use Rattle.coding.proofs.code.code_drawing.Tie as tie
 
@@ -26,32 +27,42 @@ enum-told c = search needs
 counted-requires : tie.Need-counted-requires
 counted-requires c κs = search needs
 
--- no refusal applies, and m is the number of cables
-accepted-at : (c : tie.After-counted) → drawing-refusal (c .before .before .before .before .before .before .args .drawing .now) ≡ 0
-accepted-at c = accepted-zero (c .before .before .before .check-drawing .ensures) (c .before .enum-told .given .1)
+records-of-requires : tie.Need-records-of-requires
+records-of-requires c κs = search needs
 
-cables-at : (c : tie.After-counted) → c .counted .result .cables ≡ getD (c .before .before .before .before .before .before .args .drawing .now) 1 0
-cables-at c = ap (λ (x : Drawing). x .cables) (c .counted .ensures)
+-- no refusal applies, m is the number of cables, and n that of the records
+accepted-at : (c : tie.After-records-of) → drawing-refusal (c .before .before .before .before .before .before .before .args .drawing .now) ≡ 0
+accepted-at c = accepted-zero (c .before .before .before .before .check-drawing .ensures) (c .before .before .enum-told .given .1)
+
+cables-at :
+    (c : tie.After-records-of)
+    → c .before .counted .result .cables ≡ getD (c .before .before .before .before .before .before .before .args .drawing .now) 1 0
+cables-at c = ap (λ (x : Drawing). x .cables) (c .before .counted .ensures)
+
+few : (c : tie.After-records-of) → c .records-of .result ≤ 20
+few c =
+    records-few (c .before .counted .result .cables) (c .records-of .result) (c .records-of .ensures)
+    (omega (arith, cables-at c, accepted-parts _ (accepted-at c) .cables-high))
 
 mul-bytes : tie.Need-mul-bytes
-mul-bytes c = omega (arith, cables-at c, accepted-parts _ (accepted-at c) .cables-high)
+mul-bytes c = omega (arith, few c)
 
 returns-2 : tie.Need-returns-2
-returns-2 c = output-turned-back _ _ (accepted-at (c .before)) _ (cables-at (c .before)) (c .if1 .taken)
+returns-2 c = output-turned-back _ _ (accepted-at (c .before)) _ _ (cables-at (c .before)) (c .before .records-of .ensures) (c .if1 .taken)
 
-least-code-requires : tie.Need-least-code-requires
-least-code-requires c κs = (accepted-at (c .before), cables-at (c .before))
+section-code-requires : tie.Need-section-code-requires
+section-code-requires c κs = (accepted-at (c .before), cables-at (c .before))
 
-long : (c : tie.After-least-code) → length (c .least-code .result .records) ≡ 100
+long : (c : tie.After-section-code) → length (c .section-code .result .records) ≡ 100
 long c = search needs
 
 write-code-requires : tie.Need-write-code-requires
 write-code-requires c κs =
     let l = c .before in
     let k = l .before .before in
-    let s = k .before .before .before .before .before .before in
-    code-fits _ (s .args .output .now) (accepted-at k) _ (cables-at k) (l .before .if1 .left) (l .least-code .result) (long l)
-    (l .least-code .ensures)
+    let s = k .before .before .before .before .before .before .before in
+    code-fits _ (s .args .output .now) (accepted-at k) _ _ (cables-at k) (k .records-of .ensures) (l .before .if1 .left) (l .section-code .result)
+    (long l) (l .section-code .ensures)
 
 same-length : tie.Need-same-length
 same-length c = search needs
@@ -61,8 +72,8 @@ returns-3 c =
     let w = c .before .before in
     let l = w .before .before in
     let k = l .before .before in
-    code-written _ _ (accepted-at k) _ (cables-at k) (l .before .if1 .left) (l .least-code .result) (long l) (l .least-code .ensures) _
-    (w .write-code .ensures)
+    code-written _ _ (accepted-at k) _ _ (cables-at k) (k .records-of .ensures) (l .before .if1 .left) (l .section-code .result) (long l)
+    (l .section-code .ensures) _ (w .write-code .ensures)
 
 pub code-drawing-spec : {M : Type 1} → statement M
 code-drawing-spec =
@@ -73,9 +84,10 @@ code-drawing-spec =
     returns
     enum-told
     counted-requires
+    records-of-requires
     mul-bytes
     returns-2
-    least-code-requires
+    section-code-requires
     write-code-requires
     same-length
     returns-3)

@@ -1,4 +1,4 @@
--- `search::write_code` meets its contract. The invariant: the first i bytes of the records stand in front of what was lent.
+-- `code::write_code` meets its contract. The invariant: the first i bytes of the records stand in front of what was lent.
 -- Assumes nothing.
 use mathlib.Core.Path.{_≡_, refl, ap, _∙_}
 use mathlib.Core.List.{_++_}

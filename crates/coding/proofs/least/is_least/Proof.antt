@@ -1,29 +1,37 @@
--- `least::is_least` meets its contract: an accepted code is least exactly if no start comes before it. Assumes
--- nothing.
+-- `least::is_least` meets its contract: a lone device's code is least, and an accepted DFS code exactly if no start comes before it.
+-- Assumes nothing.
 use mathlib.Core.Path.{_≡_, refl, sym, _∙_}
 use mathlib.Core.Bool.{true≢false}
 use mathlib.Core.Logic.{inl, inr}
 use native.Mathlib.Omega.{arith}
 use borrow.Author.Needs.{needs}
 use Rattle.codes.specs.CodeBytes.{accepted-code}
+use Rattle.codes.specs.SectionCode.{section-code-refusal}
 use Rattle.records.specs.declared.refusal.Checked.the-variants.{Accepted}
-use Rattle.readings.specs.Readings.{code-checked}
-use Rattle.code_checks.specs.CheckLaws.{checked-accepted}
+use Rattle.code_checks.specs.SectionChecks.{section-code-checked}
+use Rattle.code_checks.specs.SectionCheckLaws.{section-checked-accepted, steps-accepted}
 use Rattle.tables.specs.CodeRows.{code-ten}
 use Rattle.tables.specs.TableOfCode.{Byte-code, code-pattern}
 use Rattle.least_test.specs.LeastStarts.{some-not-least, none-least}
+use Rattle.coding.specs.LeastSaysLaws.{lone-code-least, dfs-code-least, dfs-code-not}
 use Rattle.coding.proofs.least.is_least.Statement.{statement}
 use Rattle.coding.proofs.least.is_least.Tie as tie
 
 -- the code is accepted
-accepted : (c : tie.After-enum-told) → code-checked (c .before .before .before .before .args .code .now) ≡ Accepted
+accepted : (c : tie.After-enum-told) → section-code-checked (c .before .before .before .before .args .code .now) ≡ Accepted
 accepted c = sym (c .before .before .check-code .ensures) ∙ c .enum-told .given .1
 
-known : (c : tie.After-enum-told) → Byte-code (c .before .before .before .before .args .code .now)
+fine : (c : tie.After-enum-told) → section-code-refusal (c .before .before .before .before .args .code .now) ≡ 0
+fine c = section-checked-accepted (c .before .before .before .before .args .code .now) (accepted c)
+
+-- and no lone device's
+known : (c : tie.Else1) → Byte-code (c .before .before .before .before .before .before .args .code .now)
 known c =
+    let k = c .before .before in
     record {
-      bytes = λ i. omega (arith, c .before .before .before .shared-slice-known .given i);
-      accepted = checked-accepted (c .before .before .before .before .args .code .now) (accepted c);
+      bytes = λ i. omega (arith, k .before .before .before .shared-slice-known .given i);
+      accepted =
+          steps-accepted (k .before .before .before .before .args .code .now) (fine k) (sym (c .before .is-lone .ensures) ∙ c .if1 .left);
     }
 
 check-code-requires : tie.Need-check-code-requires
@@ -37,6 +45,14 @@ returns c = rw (sym (c .before .before .before .check-code .ensures) ∙ c .befo
 
 enum-told : tie.Need-enum-told
 enum-told c = search needs
+
+is-lone-requires : tie.Need-is-lone-requires
+is-lone-requires c κs = search needs
+
+returns-2 : tie.Need-returns-2
+returns-2 c =
+    let k = c .before .before in
+    rw (accepted k) (inl (refl, lone-code-least _ (fine k) (sym (c .before .is-lone .ensures) ∙ c .if1 .taken)))
 
 labels-of-code-requires : tie.Need-labels-of-code-requires
 labels-of-code-requires c κs = known c .accepted
@@ -58,16 +74,18 @@ some-start-better-requires c κs =
       w .twins-of .ensures,
     )
 
-returns-2 : tie.Need-returns-2
-returns-2 c =
-    let k = c .before .before .before .before .before .before .before in
-    rw (accepted k) (inr (refl, some-not-least _ (code-pattern (known k)) (c .before .some-start-better .ensures .holds (c .if1 .taken))))
-
 returns-3 : tie.Need-returns-3
 returns-3 c =
     let k = c .before .before .before .before .before .before .before in
+    let none = some-not-least _ (code-pattern (known k)) (c .before .some-start-better .ensures .holds (c .if2 .taken)) in
+    rw (accepted (k .before .before)) (inr (refl, dfs-code-not (known k) none))
+
+returns-4 : tie.Need-returns-4
+returns-4 c =
+    let k = c .before .before .before .before .before .before .before in
     let good = accepted-code _ (known k .accepted) .good in
-    rw (accepted k) (inl (refl, none-least _ good (code-pattern (known k)) (c .before .some-start-better .ensures .fails (c .if1 .left))))
+    let least = none-least _ good (code-pattern (known k)) (c .before .some-start-better .ensures .fails (c .if2 .left)) in
+    rw (accepted (k .before .before)) (inl (refl, dfs-code-least (known k) least))
 
 pub is-least-spec : {M : Type 1} → statement M
 is-least-spec =
@@ -77,8 +95,10 @@ is-least-spec =
     enum-known-r
     returns
     enum-told
+    is-lone-requires
+    returns-2
     labels-of-code-requires
     twins-of-requires
     some-start-better-requires
-    returns-2
-    returns-3)
+    returns-3
+    returns-4)

@@ -7,8 +7,8 @@ use borrow.Author.Needs.{needs}
 use lib.ListN.{drop}
 use lib.Seq.{length-take-le}
 use Rattle.records.specs.declared.refusal.Checked.the-variants.{Accepted}
-use Rattle.readings.specs.Readings.{code-checked}
-use Rattle.code_checks.specs.CheckLaws.{checked-accepted}
+use Rattle.code_checks.specs.SectionChecks.{section-code-checked}
+use Rattle.code_checks.specs.SectionCheckLaws.{section-checked-accepted}
 use Rattle.decoding.specs.DecodingLaws.{decode-refused, decode-short, decode-written}
 use Rattle.decoding.proofs.decode.decode.Statement.{statement}
 use Rattle.decoding.proofs.decode.decode.Tie as tie
@@ -29,7 +29,7 @@ enum-told : tie.Need-enum-told
 enum-told c = search needs
 
 -- the code has no refusal
-accepted : (c : tie.After-enum-told) → code-checked (c .before .before .before .before .before .args .code .now) ≡ Accepted
+accepted : (c : tie.After-enum-told) → section-code-checked (c .before .before .before .before .before .args .code .now) ≡ Accepted
 accepted c = sym (c .before .before .check-code .ensures) ∙ c .enum-told .given .1
 
 returns-2 : tie.Need-returns-2
@@ -49,7 +49,7 @@ write-drawing-requires : tie.Need-write-drawing-requires
 write-drawing-requires c κs =
     let a = c .before .before .before .before .before .before .before .args in
     record {
-      accepted = checked-accepted (a .code .now) (accepted (c .before .before));
+      accepted = section-checked-accepted (a .code .now) (accepted (c .before .before));
       room = length-take-le 72 (a .output .now) (c .before .if1 .left);
     }
 

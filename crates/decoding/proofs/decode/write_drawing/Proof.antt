@@ -1,85 +1,73 @@
--- `decode::write_drawing` meets its contract. The invariant: the bytes are the record of what k records describe.
--- Assumes nothing.
-use Prim.Native.Nat.{_/_, ℕ, _≤_, _<_, _-_}
-use mathlib.Core.Path.{_≡_, refl, sym, _∙_, ap, ap₂, subst}
+-- `decode::write_drawing` meets its contract: over zeros, a lone device or what the records draw. Assumes nothing.
+use Prim.Native.Nat.{ℕ}
+use mathlib.Core.Path.{_≡_, ap, sym, _∙_}
 use native.Mathlib.Omega.{arith}
 use borrow.Author.Needs.{needs}
-use lib.ListN.{length, replicate}
-use Rattle.graphs.specs.Drawing.{drawing-bytes}
-use Rattle.codes.specs.Code.{Rec, recs-in, decoded}
-use Rattle.decoding.specs.Decoding.{write-record}
-use Rattle.decoding.specs.DecodingLaws.{decoded-start, code-few, decoded-next, decoded-device}
+use lib.ListN.{replicate}
+use Rattle.codes.specs.SectionBytes.{lone-bytes-parts}
+use Rattle.code_checks.specs.SectionCheckLaws.{steps-accepted}
+use Rattle.decoding.specs.Decoding.{write-device}
+use Rattle.decoding.specs.DecodingLaws.{lone-written, decoded-lone, decoded-steps}
 use Rattle.decoding.proofs.decode.write_drawing.Statement.{statement}
 use Rattle.decoding.proofs.decode.write_drawing.Tie as tie
 
-abbrev Inv-loop : tie.InvT-loop
-Inv-loop code drawing₀ k₀ k-end drawing k =
-    (k ≤ k-end) × (k-end ≡ length code / 5) × (length drawing ≡ 72) × (drawing ≡ drawing-bytes (decoded (recs-in k code)))
-
-abbrev μ-loop : tie.MeasureT-loop
-μ-loop code drawing₀ k₀ k-end drawing k = k-end - k
-
-clear-requires : tie.Need-clear-requires Inv-loop μ-loop
+clear-requires : tie.Need-clear-requires
 clear-requires c κs = search needs
 
-loop-holds : tie.Need-loop-holds Inv-loop μ-loop
-loop-holds c =
-    let k = c .before .before in
-    let s = k .before .before .before .before in
-    let e = k .clear .ensures ∙ ap (λ (n : ℕ). replicate n 0) (s .pre .room) in
-    (search needs, refl, ap length e, e ∙ decoded-start (s .args .code .now))
+is-lone-requires : tie.Need-is-lone-requires
+is-lone-requires c κs = search needs
 
-at-requires : tie.Need-at-requires Inv-loop μ-loop
-at-requires c κs = search needs
+at-requires : tie.Need-at-requires
+at-requires c κs = omega (arith, lone-bytes-parts _ (sym (c .before .is-lone .ensures) ∙ c .if1 .taken) .0)
 
-write-record-requires : tie.Need-write-record-requires Inv-loop μ-loop
-write-record-requires c κs =
-    let l = c .before .before .before .loop in
-    let s = c .before .before .before .before .before .before .before .before .before .before in
-    let d = decoded-device (s .args .code .now) (s .pre .accepted) (l .k) (omega arith) in
-    record {
-      few = code-few (s .args .code .now) (s .pre .accepted) (l .k) (omega arith);
-      device = subst (λ (e : Rec). e .i < e .j → e .j < 10) (sym (c .at .ensures)) d;
-      room = l .inv .2;
-    }
+write-device-requires : tie.Need-write-device-requires
+write-device-requires c κs = search needs
 
-add-k : tie.Need-add-k Inv-loop μ-loop
-add-k c = search needs
+-- the bytes are zero
+zeros : (c : tie.After-clear) → c .clear .last .0 ≡ replicate 72 0
+zeros c = c .clear .ensures ∙ ap (λ (n : ℕ). replicate n 0) (c .before .before .before .before .pre .room)
 
-loop-less : tie.Need-loop-less Inv-loop μ-loop
-loop-less c = search needs
+write-steps-requires : tie.Need-write-steps-requires
+write-steps-requires c κs =
+    let k = c .before in
+    let e = k .before .before .before .before in
+    let s = e .before .before .before .before in
+    record { accepted = steps-accepted _ (s .pre .accepted) (sym (k .before .is-lone .ensures) ∙ k .if1 .left); zeros = zeros e }
 
-loop-again : tie.Need-loop-again Inv-loop μ-loop
-loop-again c =
-    let w = c .before .before in
-    let l = w .before .before .before .before .loop in
-    let s = w .before .before .before .before .before .before .before .before .before .before .before in
-    let more = ap₂ (λ e d. write-record (l .k) e d) (w .before .at .ensures) (l .inv .3) in
-    let next = decoded-next (s .args .code .now) (s .pre .accepted) (l .k) (omega arith) in
-    (search needs, l .inv .1, w .write-record .kept .0 ∙ l .inv .2, w .write-record .ensures ∙ more ∙ next)
-
-same-length : tie.Need-same-length Inv-loop μ-loop
+same-length : tie.Need-same-length
 same-length c = search needs
 
-returns : tie.Need-returns Inv-loop μ-loop
+returns : tie.Need-returns
 returns c =
-    let l = c .before .loop in
-    let bs = c .before .before .before .before .before .before .before .before .args .code .now in
-    let e : l .k ≡ length bs / 5 = omega arith in
-    l .inv .3 ∙ ap (λ (n : ℕ). drawing-bytes (decoded (recs-in n bs))) e
+    let w = c .before .before in
+    let a = w .before .before in
+    let l = a .before .before in
+    let e = l .before .before .before in
+    let s = e .before .before .before .before in
+    let kind = a .at .result .ki in
+    w .write-device .ensures ∙ ap (write-device 0 kind) (zeros e) ∙ lone-written kind
+    ∙ decoded-lone _ (s .pre .accepted) _ (sym (l .is-lone .ensures) ∙ a .before .if1 .taken) (a .at .ensures)
+
+same-length-2 : tie.Need-same-length-2
+same-length-2 c = search needs
+
+returns-2 : tie.Need-returns-2
+returns-2 c =
+    let w = c .before .before in
+    let k = w .before .before in
+    let s = k .before .before .before .before .before .before .before .before in
+    w .write-steps .ensures ∙ decoded-steps _ (s .pre .accepted) (sym (k .before .is-lone .ensures) ∙ k .if1 .left)
 
 pub write-drawing-spec : {M : Type 1} → statement M
 write-drawing-spec =
     tie.close
     (tie.spec
-    Inv-loop
-    μ-loop
     clear-requires
-    loop-holds
+    is-lone-requires
     at-requires
-    write-record-requires
-    add-k
-    loop-less
-    loop-again
+    write-device-requires
+    write-steps-requires
     same-length
-    returns)
+    returns
+    same-length-2
+    returns-2)

@@ -4,7 +4,6 @@ use Prim.Native.Nat.{_≤_, _<_, _-_}
 use native.Mathlib.Omega.{arith}
 use lib.ListN.{getD}
 use borrow.Author.Needs.{needs}
-use Rattle.graphs.specs.Patterns.{accepted-parts}
 use Rattle.tables.specs.TableOfDrawing.{cable-low}
 use Rattle.least_code.proofs.busy.busiest.Statement.{statement}
 use Rattle.least_code.proofs.busy.busiest.Tie as tie
@@ -21,7 +20,7 @@ degrees-requires c κs = search needs
 loop-holds : tie.Need-loop-holds Inv-loop μ-loop
 loop-holds c =
     let s = c .before .before in
-    (search needs, omega (arith, s .pre .1, accepted-parts _ (s .pre .0) .cables-low))
+    (search needs, s .pre .2)
 
 at-requires : tie.Need-at-requires Inv-loop μ-loop
 at-requires c κs = search needs

@@ -8,8 +8,9 @@ use lib.ListN.{length}
 use borrow.Author.Needs.{needs}
 use Rattle.graphs.specs.Drawing.{drawing-in}
 use Rattle.graphs.specs.Patterns.{accepted-parts}
+use Rattle.graphs.specs.Sections.{section-pattern}
 use Rattle.codes.specs.Code.{recs-in}
-use Rattle.tables.specs.TableOfDrawing.{record-pattern}
+use Rattle.tables.specs.TableOfDrawing.{record-section}
 use Rattle.least_below.specs.Searches.{Given}
 use Rattle.least_code.specs.Starting.{Starts, Seen-in, First-and-before}
 use Rattle.least_code.specs.SearchStartCalls.{no-rows, none-best, first-seen, seen-best, next-seen, skip-seen, all-seen}
@@ -32,12 +33,14 @@ given-at :
     → Given (c .before .before .args .drawing .now) (c .labels-of-drawing .result) (c .before .before .args .m)
 given-at c =
     let s = c .before .before in
-    let bs = s .args .drawing .now in
+    let count = accepted-parts (s .args .drawing .now) (s .pre .0) .cable-count ∙ sym (s .pre .1) in
     record {
       accepted = s .pre .0;
-      pattern = record-pattern (record { bytes = λ i. omega (arith, c .before .shared-slice-known .given i); accepted = s .pre .0 });
+      pattern =
+          section-pattern (record-section (record { bytes = λ i. omega (arith, c .before .shared-slice-known .given i); accepted = s .pre .0 }))
+          (omega (arith, count, s .pre .2));
       labels = c .labels-of-drawing .ensures;
-      cables = accepted-parts bs (s .pre .0) .cable-count ∙ sym (s .pre .1);
+      cables = count;
     }
 
 twins-of-requires : tie.Need-twins-of-requires Inv-loop μ-loop

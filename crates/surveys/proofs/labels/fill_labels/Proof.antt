@@ -9,7 +9,7 @@ use Rattle.graphs.specs.Survey.{drawing-count}
 use Rattle.graphs.specs.AcceptedSurvey.{drawing-part}
 use Rattle.graphs.specs.AcceptedSurvey.{accepted-survey}
 use Rattle.walks.specs.LocalPlaces.{labels-low}
-use Rattle.walks.specs.PreparedLaws.{labelled-pattern}
+use Rattle.walks.specs.PreparedLaws.{labelled-section}
 use Rattle.walks.specs.DrawingTables.{Tables-before}
 use Rattle.walks.specs.DrawingTableLaws.{tables-none, tables-next}
 use Rattle.surveys.proofs.labels.fill_labels.Statement.{statement}
@@ -56,7 +56,7 @@ put-drawing-requires c κs =
     let ten : length (t .result) ≡ 100 = search needs in
     let a = accepted-survey (s .args .survey .now) (s .pre .0) in
     let labels = rw (drawing-part (s .args .survey .now) (l .d)) at (t .ensures) in
-    let p = labelled-pattern (row 72 (l .d) (s .args .survey .now)) (t .result) (a .drawing (l .d) (omega arith)) labels in
+    let p = labelled-section (row 72 (l .d) (s .args .survey .now)) (t .result) (a .drawing (l .d) (omega arith)) labels in
     (omega (arith, a .most), ten, l .inv .2 .size, labels-low _ p labels)
 
 add-d : tie.Need-add-d Inv-loop μ-loop

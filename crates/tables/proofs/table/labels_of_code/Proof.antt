@@ -9,7 +9,7 @@ use Rattle.codes.specs.Code.{cable-of, decoded}
 use Rattle.codes.specs.Code.{code-records}
 use Rattle.tables.specs.Tables.{first-cables, Table}
 use Rattle.tables.specs.TableLaws.{table-start}
-use Rattle.tables.specs.TableOfCode.{Byte-code, code-pattern, record-low, code-turn, code-done}
+use Rattle.tables.specs.TableOfCode.{Byte-code, code-section, record-low, code-turn, code-done}
 use Rattle.tables.proofs.table.labels_of_code.Statement.{statement}
 use Rattle.tables.proofs.table.labels_of_code.Tie as tie
 
@@ -25,7 +25,7 @@ known : (c : tie.After-shared-slice-known Inv-loop μ-loop) → Byte-code (c .be
 known c = record { bytes = λ i. omega (arith, c .shared-slice-known .given i); accepted = c .before .pre }
 
 loop-holds : tie.Need-loop-holds Inv-loop μ-loop
-loop-holds c = (search needs, search needs, table-start _ (code-pattern (known c)))
+loop-holds c = (search needs, search needs, table-start _ (code-section (known c)))
 
 at-requires : tie.Need-at-requires Inv-loop μ-loop
 at-requires c κs = search needs

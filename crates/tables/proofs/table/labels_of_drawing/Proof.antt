@@ -12,7 +12,7 @@ use Rattle.tables.specs.TableLaws.{table-start}
 use Rattle.tables.specs.TableOfDrawing.{
   Byte-record,
   record-size,
-  record-pattern,
+  record-section,
   cable-low,
   drawing-turn,
   drawing-done,
@@ -45,7 +45,7 @@ counted-requires : tie.Need-counted-requires Inv-loop μ-loop
 counted-requires c κs = search needs
 
 loop-holds : tie.Need-loop-holds Inv-loop μ-loop
-loop-holds c = (search needs, table-start _ (record-pattern (known (c .before))))
+loop-holds c = (search needs, table-start _ (record-section (known (c .before))))
 
 at-requires : tie.Need-at-requires Inv-loop μ-loop
 at-requires c κs = search needs

@@ -1,5 +1,5 @@
 -- A code of a section is that of a lone device or a DFS code: what is known of least DFS codes holds of both. Rests on FullCode,
--- CodesTell, Decoded and LeastCode. Assumes nothing.
+-- Decoded and LeastCode. Assumes nothing.
 use mathlib.Core.Path.{_≡_, refl, sym, ap, ap₂, subst, _∙_}
 use mathlib.Core.Bool.{Bool, true, false, _&&_, _||_, cond}
 use mathlib.Core.List.{List, [], _∷_}

@@ -34,7 +34,9 @@ use Rattle.codes.specs.SectionCode.{
 }
 use Rattle.codes.specs.SectionBytes.{records-accepted}
 use Rattle.growth.specs.Catalogue.{Entry, Catalogue}
+use Rattle.records.specs.declared.refusal.Refusal.the-variants as refusal
 use Rattle.records.specs.declared.refusal.Checked.{Checked}
+use Rattle.records.specs.declared.refusal.Checked.the-variants.{Accepted, Refused}
 use Rattle.records.specs.declared.survey.SurveyChecked.{SurveyChecked}
 use Rattle.records.specs.declared.catalogued.Catalogued.{Catalogued}
 use Rattle.records.specs.declared.catalogued.Catalogued.the-variants.{Entries}
@@ -87,6 +89,7 @@ use Rattle.demands.specs.Terms.{
   Contained,
   Least-map-written,
   Lone-mapped,
+  No-device,
   lone-five,
   Whole-catalogue,
 }
@@ -305,10 +308,14 @@ pub record Lone-rule : Type 0 where
       → written-bytes r z ≡ lone-five (kind (drawing-in xs) 0)
   pub decodes-to : (k : ℕ) (r : Written) (o z : List ℕ) → 72 ≤ length o → Decode-says (lone-five k) r o z
       → drawing-in (written-bytes r z) ≡ lone-drawing k
-  -- alone, it is refused 10 for a cable kind and 11 for unequal kinds; 0, 0 before, behind or among other records is refused 10
-  pub five-refusal : (k c l : ℕ) → section-code-refusal (0 ∷ 0 ∷ k ∷ c ∷ l ∷ []) ≡ cond (eqb c 0) (cond (eqb k l) 0 11) 10
-  pub elsewhere-refused : (rs ss : List Rec) (e : Rec) → rows-refusal fresh rs ≡ 0 → e .i ≡ 0 → e .j ≡ 0
-      → 2 ≤ length (rs ++ (e ∷ ss)) → length (rs ++ (e ∷ ss)) ≤ 20 → section-code-refusal (rec-bytes (rs ++ (e ∷ ss))) ≡ 10
+  -- alone, it is refused 10 (`Step`) for a cable kind and 11 (`Kind`) for unequal kinds; 0, 0 before, behind or among other records is
+  -- refused 10 at its own number
+  pub row-checked : (k c l : ℕ)
+      → section-code-checked (0 ∷ 0 ∷ k ∷ c ∷ l ∷ [])
+      ≡ cond (eqb c 0) (cond (eqb k l) Accepted (Refused (refusal.Kind 0))) (Refused (refusal.Step 0))
+  pub elsewhere-checked : (rs ss : List Rec) (e : Rec) → rows-refusal fresh rs ≡ 0 → e .i ≡ 0 → e .j ≡ 0
+      → 2 ≤ length (rs ++ (e ∷ ss)) → length (rs ++ (e ∷ ss)) ≤ 20
+      → section-code-checked (rec-bytes (rs ++ (e ∷ ss))) ≡ Refused (refusal.Step (length rs))
   -- it is least, comes before every code with cables, and two stand by their kinds
   pub is-least : (k : ℕ) (v : Verdict) → Least-says (lone-five k) v → v ≡ verdict.Yes
   pub first : (k : ℕ) (ys : List ℕ) (r : Compared) → section-code-refusal ys ≡ 0 → lone-bytes ys ≡ false → Compare-says (lone-five k) ys r
@@ -317,9 +324,10 @@ pub record Lone-rule : Type 0 where
   -- as a pattern it is sent to the lowest device of its kind, and to none exactly if there is none
   pub map : (xs ys : List ℕ) (n : ℕ) (o z : List ℕ) → drawing-in xs .cables ≡ [] → Match-says xs ys (matched.Map n) o z
       → Lone-mapped (kind (drawing-in xs) 0) (drawing-in ys) o z
-  pub no-device : (xs ys : List ℕ) (o z : List ℕ) → drawing-refusal xs ≡ 0 → drawing-refusal ys ≡ 0 → 1 ≤ length o
-      → drawing-in xs .cables ≡ [] → Match-says xs ys matched.NotContained o z
-      → (v : ℕ) → v < devices (drawing-in ys) → kind (drawing-in ys) v ≡ kind (drawing-in xs) 0 → ⊥
+  pub no-device : (xs ys : List ℕ) (r : Matched) (o z : List ℕ) → drawing-refusal xs ≡ 0 → drawing-refusal ys ≡ 0 → 1 ≤ length o
+      → drawing-in xs .cables ≡ [] → Match-says xs ys r o z
+      → (r ≡ matched.NotContained → No-device (kind (drawing-in xs) 0) (drawing-in ys))
+      × (No-device (kind (drawing-in xs) 0) (drawing-in ys) → r ≡ matched.NotContained)
   -- it is the same as one of its kind, and never as a drawing with cables
   pub mapped-by-kind : (xs ys : List ℕ) → drawing-refusal xs ≡ 0 → drawing-refusal ys ≡ 0 → drawing-in xs .cables ≡ [] → drawing-in ys .cables ≡ []
       → (Mapped (drawing-in xs) (drawing-in ys) → kind (drawing-in xs) 0 ≡ kind (drawing-in ys) 0)
@@ -343,8 +351,8 @@ lone-rule =
       code-is = λ {xs} {r} {o} {z} c n.
           lone.code-is xs r o z (accepted-refusal xs (c .drawing)) n (code-is-least xs r o z (accepted-refusal xs (c .drawing)) (c .room) (c .says));
       decodes-to = lone.decodes-to;
-      five-refusal = lone.five-refusal;
-      elsewhere-refused = lone.elsewhere-refused;
+      row-checked = lone.lone-row-checked;
+      elsewhere-checked = lone.zero-record-checked;
       is-least = lone.lone-is-least;
       first = lone.first;
       by-kind = lone.by-kind;

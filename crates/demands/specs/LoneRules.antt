@@ -43,7 +43,6 @@ use Rattle.codes.specs.Code.{
   rec-bytes,
   rows-refusal,
   code-records,
-  code-refusal,
   kinds-before,
   before,
 }
@@ -53,7 +52,6 @@ use Rattle.codes.specs.SectionCode.{
   lone-record,
   lone-code,
   lone-row,
-  lone-refusal,
   lone-bytes,
   section-code-refusal,
   section-of,
@@ -62,26 +60,30 @@ use Rattle.codes.specs.SectionCode.{
 use Rattle.codes.specs.SectionCodes.{same-lone, lone-code-of, lone-only, lone-first, lone-by-kind}
 use Rattle.codes.specs.SectionBytes.{Accepted-as, accepted-as, read-again}
 use Rattle.records.specs.declared.refusal.Checked.{Checked}
-use Rattle.records.specs.declared.refusal.Checked.the-variants.{Accepted}
+use Rattle.records.specs.declared.refusal.Checked.the-variants.{Accepted, Refused}
+use Rattle.records.specs.declared.refusal.Refusal.the-variants as refusal
+use Rattle.readings.specs.Readings.{rows-checked, code-length-checked, code-checked}
+use Rattle.code_checks.specs.SectionChecks.{lone-checked, section-code-checked}
 use Rattle.code_checks.specs.declared.answer.Written.{Written}
 use Rattle.code_checks.specs.declared.answer.Verdict.{Verdict}
 use Rattle.code_checks.specs.declared.answer.Verdict.the-variants as verdict
 use Rattle.code_checks.specs.declared.answer.Compared.{Compared}
 use Rattle.code_checks.specs.declared.answer.Compared.the-variants as compared
-use Rattle.code_checks.specs.SectionCheckLaws.{section-accepted-checked}
+use Rattle.code_checks.specs.SectionCheckLaws.{section-checked-accepted, section-accepted-checked}
 use Rattle.coding.specs.CodeDrawing.{Least-written}
 use Rattle.coding.specs.LeastSays.{Least-answer, Least-says}
 use Rattle.coding.specs.LeastSaysLaws.{lone-code-least}
 use Rattle.decoding.specs.Decoding.{Decode-says}
 use Rattle.comparing.specs.Comparing.{Compare-says}
+use Rattle.matching.specs.declared.answer.Matched.{Matched}
 use Rattle.matching.specs.declared.answer.Matched.the-variants as matched
 use Rattle.matching.specs.MatchAnswers.{Match-says}
 use Rattle.matching.specs.Outcomes.{match-answers}
-use Rattle.demands.specs.Terms.{written-bytes, Mapped, lone-five, Least-map-written, Lone-mapped}
+use Rattle.demands.specs.Terms.{written-bytes, Mapped, Contained, lone-five, Least-map-written, Lone-mapped, No-device}
 use Rattle.demands.specs.Coding.{bytes-in-front}
 use Rattle.demands.specs.CodeWays.{code-drawn, mapped-from-same, same-from-mapped}
 use Rattle.demands.specs.Comparisons.{before-if}
-use Rattle.demands.specs.Matches.{map-written, no-map}
+use Rattle.demands.specs.Matches.{map-written, no-map, not-contained}
 
 -- ONE DEVICE: what is accepted without cables has one
 pub one-device : (d : Drawing) → devices d ≡ 1 → d .cables ≡ [] → d ≡ lone-drawing (kind d 0)
@@ -131,17 +133,22 @@ module _ (xs : List ℕ) (size : length xs ≡ 72) where
       )
 
 -- THE CODE of one device, and codes like it
-pub five-refusal : (k c l : ℕ) → section-code-refusal (0 ∷ 0 ∷ k ∷ c ∷ l ∷ []) ≡ cond (eqb c 0) (cond (eqb k l) 0 11) 10
-unfolding section-code-refusal lone-bytes lone-row lone-refusal recs-in rows rec-in
-five-refusal k c l = go (eqb c 0) (eqb k l)
+pub lone-row-checked :
+    (k c l : ℕ)
+    → section-code-checked (0 ∷ 0 ∷ k ∷ c ∷ l ∷ [])
+    ≡ cond (eqb c 0) (cond (eqb k l) Accepted (Refused (refusal.Kind 0))) (Refused (refusal.Step 0))
+unfolding section-code-checked lone-bytes lone-row lone-checked recs-in rows rec-in
+lone-row-checked k c l = go (eqb c 0) (eqb k l)
   where
-    go : (s t : Bool) → _≡_ {A = ℕ} (cond (not s) 10 (cond (not t) 11 0)) (cond s (cond t 0 11) 10)
+    go : (s t : Bool)
+        → cond (not s) (Refused (refusal.Step 0)) (cond (not t) (Refused (refusal.Kind 0)) Accepted)
+        ≡ cond s (cond t Accepted (Refused (refusal.Kind 0))) (Refused (refusal.Step 0))
     go true true = refl
     go true false = refl
     go false t = refl
 
 five-fine : (k : ℕ) → section-code-refusal (lone-five k) ≡ 0
-five-fine k = five-refusal k 0 k ∙ rw (eq-eqb k k refl)
+five-fine k = section-checked-accepted (lone-five k) (lone-row-checked k 0 k ∙ rw (eq-eqb k k refl))
 
 pub five-records : (k : ℕ) → code-records (lone-five k) ≡ lone-code k
 unfolding recs-in rows rec-in lone-record
@@ -161,30 +168,36 @@ zero-step x r p q = rw (p, q) (go (eqb (length (x .kinds)) 0) (eqb 0 (end (x .pa
     go false true u = refl
     go false false u = refl
 
-rows-zero : (x : Reading) (rs ss : List Rec) (r : Rec) → r .i ≡ 0 → r .j ≡ 0 → rows-refusal x rs ≡ 0 → rows-refusal x (rs ++ (r ∷ ss)) ≡ 10
-unfolding rows-refusal
-rows-zero x [] ss r p q e = rw (zero-step x r p q)
-rows-zero x (s ∷ rs) ss r p q e =
+rows-zero :
+    (k : ℕ) (x : Reading) (rs ss : List Rec) (r : Rec) → r .i ≡ 0 → r .j ≡ 0 → rows-refusal x rs ≡ 0
+    → rows-checked k x (rs ++ (r ∷ ss)) ≡ Refused (refusal.Step (k + length rs))
+unfolding rows-checked
+rows-zero k x [] ss r p q e =
+    let n : k ≡ k + length {A = Rec} [] = omega arith in
+    rw (zero-step x r p q) (ap (λ (m : ℕ). Refused (refusal.Step m)) n)
+rows-zero k x (s ∷ rs) ss r p q e =
     let c = rows-cons x s rs e in
-    rw (c .step, c .kinds) (rows-zero (stepped x s) rs ss r p q (c .rest))
+    let n : suc k + length rs ≡ k + length (s ∷ rs) = omega arith in
+    rw (c .step, c .kinds) (rows-zero (suc k) (stepped x s) rs ss r p q (c .rest) ∙ ap (λ (m : ℕ). Refused (refusal.Step m)) n)
 
-pub elsewhere-refused :
+pub zero-record-checked :
     (rs ss : List Rec) (r : Rec) → rows-refusal fresh rs ≡ 0 → r .i ≡ 0 → r .j ≡ 0 → 2 ≤ length (rs ++ (r ∷ ss)) → length (rs ++ (r ∷ ss)) ≤ 20
-    → section-code-refusal (rec-bytes (rs ++ (r ∷ ss))) ≡ 10
-unfolding section-code-refusal lone-bytes code-refusal
-elsewhere-refused rs ss r fine p q two most =
+    → section-code-checked (rec-bytes (rs ++ (r ∷ ss))) ≡ Refused (refusal.Step (length rs))
+unfolding section-code-checked lone-bytes code-checked code-length-checked
+zero-record-checked rs ss r fine p q two most =
     let ts = rs ++ (r ∷ ss) in
     let n : length (rec-bytes ts) ≡ 5 * length ts = rec-bytes-length ts in
     let five : length (rec-bytes ts) ≡ 5 → ⊥ = λ e. omega arith in
     let some : length (rec-bytes ts) ≡ 0 → ⊥ = λ e. omega arith in
     let whole : length (rec-bytes ts) % 5 ≡ 0 = omega arith in
+    let at : 0 + length rs ≡ length rs = omega arith in
     rw (
       ne-eqb (length (rec-bytes ts)) 5 five,
       ne-eqb (length (rec-bytes ts)) 0 some,
       le-ltb 100 (length (rec-bytes ts)) (omega arith),
       eq-eqb (length (rec-bytes ts) % 5) 0 whole,
     )
-    (ap (rows-refusal fresh) (read-again ts) ∙ rows-zero fresh rs ss r p q fine)
+    (ap (rows-checked 0 fresh) (read-again ts) ∙ rows-zero 0 fresh rs ss r p q fine ∙ ap (λ (m : ℕ). Refused (refusal.Step m)) at)
 
 -- coding gives it
 pub code-is :
@@ -290,13 +303,29 @@ map xs ys n o z none says =
     lowest-device (kind (drawing-in xs) 0) (drawing-in ys)
     (subst (λ (p : Drawing). Least-map-written p (drawing-in ys) n o z) is (map-written xs ys n o z says))
 
-pub no-device :
-    (xs ys : List ℕ) (o z : List ℕ) → drawing-refusal xs ≡ 0 → drawing-refusal ys ≡ 0 → 1 ≤ length o → drawing-in xs .cables ≡ []
-    → Match-says xs ys matched.NotContained o z → (v : ℕ) → v < devices (drawing-in ys) → kind (drawing-in ys) v ≡ kind (drawing-in xs) 0 → ⊥
-no-device xs ys o z a b room none says v h e =
-    let is = lone-in xs a none in
-    let one : devices (drawing-in xs) ≤ length o = rw is room in
-    no-map xs ys matched.NotContained o z a b one says refl (v ∷ [], rw is (lone-embeds (kind (drawing-in xs) 0) (drawing-in ys) v h e))
+-- with bytes enough, "not contained" says exactly that there is none
+module _ (xs ys : List ℕ) (r : Matched) (o z : List ℕ) (a : drawing-refusal xs ≡ 0) (b : drawing-refusal ys ≡ 0) (room : 1 ≤ length o)
+    (none : drawing-in xs .cables ≡ []) (says : Match-says xs ys r o z) where
+  is : drawing-in xs ≡ lone-drawing (kind (drawing-in xs) 0)
+  is = lone-in xs a none
+
+  one : devices (drawing-in xs) ≤ length o
+  one = rw is room
+
+  pub no-device :
+      (r ≡ matched.NotContained → No-device (kind (drawing-in xs) 0) (drawing-in ys))
+      × (No-device (kind (drawing-in xs) 0) (drawing-in ys) → r ≡ matched.NotContained)
+  no-device = (
+    λ e v h k. no-map xs ys r o z a b one says e (v ∷ [], rw is (lone-embeds (kind (drawing-in xs) 0) (drawing-in ys) v h k)),
+    λ bare. not-contained xs ys r o z a b one says (absent bare),
+  )
+    where
+      absent : No-device (kind (drawing-in xs) 0) (drawing-in ys) → Contained (drawing-in xs) (drawing-in ys) → ⊥
+      absent bare (f, m) =
+          let w : Embedding (lone-drawing (kind (drawing-in xs) 0)) (drawing-in ys) f =
+          subst (λ (p : Drawing). Embedding p (drawing-in ys) f) is m in
+          let first : 0 < length f = omega (arith, w .size) in
+          bare (image f 0) (w .lands 0 first) (w .kinds 0 first)
 
 -- SAMENESS: by the kind, and never with a drawing that has cables
 module _ (xs ys : List ℕ) (a : drawing-refusal xs ≡ 0) (b : drawing-refusal ys ≡ 0) (none : drawing-in xs .cables ≡ []) where
@@ -306,20 +335,20 @@ module _ (xs ys : List ℕ) (a : drawing-refusal xs ≡ 0) (b : drawing-refusal 
   other-ends : Ends-in-range (drawing-in ys)
   other-ends = accepted-simple ys b .ends
 
-  is-lone : Mapped (drawing-in xs) (drawing-in ys) → drawing-in ys ≡ lone-drawing (kind (drawing-in xs) 0)
-  is-lone m =
+  mapped-is-lone : Mapped (drawing-in xs) (drawing-in ys) → drawing-in ys ≡ lone-drawing (kind (drawing-in xs) 0)
+  mapped-is-lone m =
       let same = same-from-mapped (drawing-in xs) (drawing-in ys) ends other-ends m in
       same-lone (kind (drawing-in xs) 0) (drawing-in ys) other-ends (subst (λ (d : Drawing). Same d (drawing-in ys)) (lone-in xs a none) same)
 
   pub never-mapped : 1 ≤ length (drawing-in ys .cables) → Mapped (drawing-in xs) (drawing-in ys) → ⊥
-  never-mapped some m = omega (arith, ap (λ (d : Drawing). length (d .cables)) (is-lone m))
+  never-mapped some m = omega (arith, ap (λ (d : Drawing). length (d .cables)) (mapped-is-lone m))
 
   pub mapped-by-kind :
       drawing-in ys .cables ≡ []
       → (Mapped (drawing-in xs) (drawing-in ys) → kind (drawing-in xs) 0 ≡ kind (drawing-in ys) 0)
       × (kind (drawing-in xs) 0 ≡ kind (drawing-in ys) 0 → Mapped (drawing-in xs) (drawing-in ys))
   mapped-by-kind bare = (
-    λ m. sym (ap (λ (d : Drawing). kind d 0) (is-lone m)),
+    λ m. sym (ap (λ (d : Drawing). kind d 0) (mapped-is-lone m)),
     λ e.
         let is : drawing-in xs ≡ drawing-in ys = lone-in xs a none ∙ ap lone-drawing e ∙ sym (lone-in ys b bare) in
         mapped-from-same (drawing-in xs) (drawing-in ys) ends other-ends

@@ -159,7 +159,11 @@ pub record Lone-mapped (k : ℕ) (d : Drawing) (out out-now : List ℕ) : Type 0
   pub lowest : (u : ℕ) → u < device → kind d u ≡ k → ⊥
   pub output : out-now ≡ in-front (device ∷ []) out
 
--- its code, as bytes
+-- no device of d has kind k
+abbrev pub No-device : (kind : ℕ) → Drawing → Type 0
+No-device k d = (v : ℕ) → v < devices d → kind d v ≡ k → ⊥
+
+-- the code of a lone device, as bytes
 abbrev pub lone-five : (kind : ℕ) → List ℕ
 lone-five k = 0 ∷ 0 ∷ k ∷ 0 ∷ k ∷ []
 

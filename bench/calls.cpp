@@ -1,4 +1,4 @@
-// Times of coding, the least test, decoding, sameness and matching. Every answer is looked at: a wrong one ends the run.
+// Times of coding, the least test, decoding, sameness, matching and the largest book. Every answer is looked at: a wrong one ends the run.
 #include "clock.hpp"
 #include "holvreiz.h"
 #include "surveys.hpp"
@@ -147,6 +147,15 @@ static void symmetric(const char *name, const Bytes &drawing) {
     printf("| %s | %.1f | %.1f | %.1f |\n", name, 1e6 * coding, 1e6 * least, 1e6 * same);
 }
 
+static void book() {
+    constexpr int ENTRIES = 1947;
+    Bytes out(ENTRIES * HOLVREIZ_ENTRY_BYTES);
+    uint64_t returned = 0;
+    double time = bench::least([&] { returned = holvreiz_book(3, 3, 3, out.data(), out.size()); });
+    expect(returned == ENTRIES, "the largest book has another number of entries");
+    printf("| 3, 3, 3 | %d | %.2f |\n", ENTRIES, 1e3 * time);
+}
+
 int main() {
     printf("| devices, cables | kinds, cable kinds | code | is_least | decode | same | match |\n|---|---|---|---|---|---|---|\n");
     for (const Shape &shape : SHAPES) row(shape);
@@ -157,4 +166,6 @@ int main() {
     symmetric("K(4,5)", bipartite(4, 5));
     symmetric("K7 less one cable", near_clique());
     symmetric("Petersen graph", petersen());
+    printf("\n| book: a, b, limit | entries | milliseconds |\n|---|---|---|\n");
+    book();
 }

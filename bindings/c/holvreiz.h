@@ -1,4 +1,5 @@
-/* Holvreiz: the least DFS code of a wiring drawing, and the catalogue of the patterns that recur in a survey of drawings.
+/* Holvreiz: the least DFS code of a wiring drawing, the catalogue of the patterns that recur in a survey of drawings, and the book of
+ * all small patterns.
  *
  * The functions are proved: each answers any bytes of any length with what its contract says (crates/holvreiz/src), reads
  * nothing outside the bytes that it is given and writes nothing outside the lent output. Link target/staticlib/libholvreiz.a,
@@ -11,11 +12,11 @@
  *
  * WHAT A CALL RETURNS is one number, (drawing * 256 + refusal) * 2^32 + count. holvreiz_refusal, holvreiz_count and
  * holvreiz_drawing take it apart. A refusal of 0 is an answer. A refused call has count 0 and writes nothing; only
- * HOLVREIZ_OUTPUT_LENGTH of a catalogue leaves the whole lent output zero. Lent bytes past an answer keep their content.
+ * HOLVREIZ_OUTPUT_LENGTH of a catalogue or a book leaves the whole lent output zero. Lent bytes past an answer keep their content.
  * No count reaches 2^32: a catalogue has at most 8,446,368 entries.
  *
- * STACK: holvreiz_catalogue needs about 1.74 MB, also where it refuses; the others need less than 32 KB. A main thread has 8 MB as a
- * rule; a thread that calls it should have 4 MB (pthread_attr_setstacksize). There is no heap.
+ * STACK: holvreiz_catalogue needs about 1.74 MB, also where it refuses; the others, holvreiz_book among them, need less than 32 KB.
+ * A main thread has 8 MB as a rule; a thread that calls it should have 4 MB (pthread_attr_setstacksize). There is no heap.
  */
 #ifndef HOLVREIZ_H
 #define HOLVREIZ_H
@@ -33,7 +34,7 @@ extern "C" {
  * A survey is 1 to 32 drawings one after another.
  * A code is 1 to 20 records of 5 bytes: i, j, kind of i, cable kind, kind of j. That of a lone device of kind k is the one
  * record 0, 0, k, 0, k.
- * An entry of a catalogue is 42 bytes: number of cables, support, the records of the least code, zeros up to 8 records. */
+ * An entry of a catalogue or a book is 42 bytes: number of cables, support, the records of the least code, zeros up to 8 records. */
 #define HOLVREIZ_DRAWING_BYTES 72
 #define HOLVREIZ_SURVEY_DRAWINGS 32
 #define HOLVREIZ_RECORD_BYTES 5
@@ -42,7 +43,7 @@ extern "C" {
 #define HOLVREIZ_ENTRY_BYTES 42
 
 /* REFUSALS. Places are checked from the top, as far as a call has them, and the first that applies is returned; of two
- * drawings or codes the first is checked fully before the second. */
+ * drawings or codes the first is checked fully before the second. A call's settings, 12 and 13, 16 and 17, come before all else. */
 enum holvreiz_reason {
     HOLVREIZ_ANSWERED = 0,
     HOLVREIZ_DRAWING_LENGTH = 1,  /* a drawing is not 72 bytes long, or a survey no multiple of 72 */
@@ -59,7 +60,9 @@ enum holvreiz_reason {
     HOLVREIZ_THRESHOLD = 12,      /* the threshold is not 1 to 32 */
     HOLVREIZ_SIZE_LIMIT = 13,     /* the size limit is not 1 to 8 */
     HOLVREIZ_SURVEY_LENGTH = 14,  /* a survey has no drawing, or over 32 */
-    HOLVREIZ_OUTPUT_LENGTH = 15   /* the lent output is too short for the whole answer */
+    HOLVREIZ_OUTPUT_LENGTH = 15,  /* the lent output is too short for the whole answer */
+    HOLVREIZ_KIND_COUNT = 16,     /* the kinds of devices or of cables of a book are not 1 to 3 */
+    HOLVREIZ_BOOK_LIMIT = 17      /* the size limit of a book is not 1 to 3 */
 };
 
 /* What a call returned, taken apart. The drawing at fault counts from 0; it is told of a catalogue's refusals 2 to 8. */
@@ -102,6 +105,11 @@ uint64_t holvreiz_same(const uint8_t *first, size_t first_length, const uint8_t 
  * HOLVREIZ_OUTPUT_LENGTH lend more and call again. 65,520 bytes do for most surveys at 2 and 4. Count: entries. */
 uint64_t holvreiz_catalogue(const uint8_t *survey, size_t survey_length, uint32_t threshold, uint32_t limit,
                             uint8_t *output, size_t output_length);
+
+/* Writes the book of all small patterns: an entry with support 0 for each connected pattern of 1 to `limit` cables (1 to 3) with device
+ * kinds below `a` and cable kinds below `b` (1 to 3 each), codes rising. Needs 42 bytes of output for each entry; docs/BOOK.md has their
+ * numbers, and 81,774 bytes do for every book. `a` and `b` are checked first, then `limit`, then the output. Count: entries. */
+uint64_t holvreiz_book(uint32_t a, uint32_t b, uint32_t limit, uint8_t *output, size_t length);
 
 #ifdef __cplusplus
 }

@@ -155,10 +155,33 @@ static void lone(void) {
     EXPECT(is(holvreiz_catalogue(survey, 216, 1, 1, output, LENT), HOLVREIZ_CABLE_COUNT, 0, 1));
 }
 
+/* The smallest book, and each refusal: 16 before 17, and both before 15. */
+static void books(void) {
+    static const uint8_t cable[7] = {1, 0, 0, 1, 0, 0, 0};
+
+    lend();
+    EXPECT(is(holvreiz_book(1, 1, 1, output, 42), HOLVREIZ_ANSWERED, 1, 0));
+    EXPECT(memcmp(output, cable, 7) == 0 && all(output + 7, 35, 0) && all(output + 42, LENT - 42, MARK));
+    lend();
+    EXPECT(is(holvreiz_book(1, 1, 2, output, LENT), HOLVREIZ_ANSWERED, 2, 0));
+    EXPECT(memcmp(output, cable, 7) == 0 && output[42] == 2 && output[43] == 0 && all(output + 84, LENT - 84, MARK));
+
+    lend();
+    EXPECT(is(holvreiz_book(0, 1, 1, output, LENT), HOLVREIZ_KIND_COUNT, 0, 0) && all(output, LENT, MARK));
+    EXPECT(is(holvreiz_book(1, 4, 9, output, 41), HOLVREIZ_KIND_COUNT, 0, 0) && all(output, LENT, MARK));
+    EXPECT(is(holvreiz_book(257, 1, 1, output, LENT), HOLVREIZ_KIND_COUNT, 0, 0) && all(output, LENT, MARK));
+    EXPECT(is(holvreiz_book(3, 3, 4, output, LENT), HOLVREIZ_BOOK_LIMIT, 0, 0) && all(output, LENT, MARK));
+    EXPECT(is(holvreiz_book(1, 1, 0, output, 0), HOLVREIZ_BOOK_LIMIT, 0, 0) && all(output, LENT, MARK));
+    EXPECT(is(holvreiz_book(1, 1, 1, output, 0), HOLVREIZ_OUTPUT_LENGTH, 0, 0) && all(output, LENT, MARK));
+    EXPECT(is(holvreiz_book(1, 1, 1, output, 41), HOLVREIZ_OUTPUT_LENGTH, 0, 0));
+    EXPECT(all(output, 41, 0) && all(output + 41, LENT - 41, MARK));
+}
+
 int main(void) {
     codes();
     maps();
     catalogues();
     lone();
+    books();
     return failures != 0;
 }

@@ -1,4 +1,4 @@
-//! Holvreiz gives a wiring drawing its identity and lists the patterns that recur in a survey of drawings.
+//! Holvreiz gives a wiring drawing its identity, lists the patterns that recur in a survey of drawings, and all small patterns.
 //!
 //! A drawing is a small labelled graph, held in a record of 72 bytes; its identity is its least DFS code. Every call takes any
 //! bytes of any length: what is no drawing, code or survey is turned back with the one [`Refusal`] that the format names. The
@@ -19,7 +19,7 @@
 //!
 //! **Stack.** There is no heap and no state, so that calls from several threads do not disturb each other. [`catalogue`] needs
 //! about 1.74 MB of stack, a refused call too: the main thread has 8 MB as a rule and a thread of `std::thread` 2 MB; one made
-//! with `std::thread::Builder::stack_size` should have 4 MB or more. The other calls need less than 32 KB.
+//! with `std::thread::Builder::stack_size` should have 4 MB or more. The other calls, [`book`] among them, need less than 32 KB.
 #![warn(missing_docs)]
 
 use std::cmp::Ordering;
@@ -46,10 +46,11 @@ pub const CODE_BYTES: usize = 100;
 /// The size of the longest map.
 pub const MAP_BYTES: usize = 10;
 
-/// The size of a catalogue's entry: number of cables, support, the least code's records, zeros up to 8 records.
+/// The size of an entry of a catalogue or a book: number of cables, support, the least code's records, zeros up to 8 records.
 pub const ENTRY_BYTES: usize = 42;
 
-/// Why a call is turned back, by the format's numbers 1 to 15. A refused call writes nothing.
+/// Why a call is turned back, by the format's numbers 1 to 17. A refused call writes nothing; only [`Refusal::OutputLength`] of a
+/// catalogue or a book leaves the whole output zero.
 #[derive(Clone, Copy, Debug, PartialEq, Eq, Hash, PartialOrd, Ord)]
 #[repr(u8)]
 pub enum Refusal {
@@ -83,11 +84,15 @@ pub enum Refusal {
     SurveyLength,
     /// The lent output is too short for the whole answer.
     OutputLength,
+    /// The number of a book's kinds of devices or of cables is not 1 to 3.
+    KindCount,
+    /// A book's size limit is not 1 to 3.
+    BookLimit,
 }
 
 impl Refusal {
     /// Every refusal, in the order of their numbers.
-    pub const ALL: [Refusal; 15] = [
+    pub const ALL: [Refusal; 17] = [
         Refusal::DrawingLength,
         Refusal::DeviceCount,
         Refusal::CableCount,
@@ -103,9 +108,11 @@ impl Refusal {
         Refusal::SizeLimit,
         Refusal::SurveyLength,
         Refusal::OutputLength,
+        Refusal::KindCount,
+        Refusal::BookLimit,
     ];
 
-    /// The format's number of a refusal, 1 to 15.
+    /// The format's number of a refusal, 1 to 17.
     pub fn number(self) -> u8 {
         self as u8
     }
@@ -132,6 +139,8 @@ impl Refusal {
             Refusal::SizeLimit => "a size limit is not 1 to 8",
             Refusal::SurveyLength => "a survey has no drawing, or over 32",
             Refusal::OutputLength => "the lent output is too short for the whole answer",
+            Refusal::KindCount => "the number of a book's kinds is not 1 to 3",
+            Refusal::BookLimit => "a book's size limit is not 1 to 3",
         }
     }
 
@@ -141,7 +150,7 @@ impl Refusal {
         Some(
             *Refusal::ALL
                 .get(place)
-                .expect("the library returns refusals 1 to 15 only"),
+                .expect("the library returns refusals 1 to 17 only"),
         )
     }
 }
@@ -264,4 +273,20 @@ pub fn catalogue(
 fn faulty_drawing(refusal: Refusal, returned: u64) -> Option<usize> {
     let in_a_drawing = Refusal::DeviceCount <= refusal && refusal <= Refusal::NotConnected;
     in_a_drawing.then_some((returned >> 40) as usize)
+}
+
+/// Writes the book of all small patterns into `output`, [`ENTRY_BYTES`] for each entry, and gives the number of entries.
+///
+/// There is an entry, with support 0, for each connected pattern of 1 to `limit` cables with device kinds below `a` and cable kinds
+/// below `b`; codes rise. All three are 1 to 3: [`Refusal::KindCount`] comes before [`Refusal::BookLimit`], and both before
+/// [`Refusal::OutputLength`], where the whole output is zero. The largest book has 1,947 entries, 81,774 bytes.
+///
+/// ```
+/// // one cable of the one kind, between two devices of the one kind
+/// let mut book = [9; holvreiz::ENTRY_BYTES];
+/// assert_eq!(holvreiz::book(1, 1, 1, &mut book), Ok(1));
+/// assert_eq!(book[..7], [1, 0, 0, 1, 0, 0, 0]);
+/// ```
+pub fn book(a: u32, b: u32, limit: u32, output: &mut [u8]) -> Result<usize, Refusal> {
+    answered(raw::book(a, b, limit, output))
 }

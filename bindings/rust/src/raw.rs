@@ -43,6 +43,7 @@ mod linked {
             output: *mut u8,
             output_length: usize,
         ) -> u64;
+        pub fn holvreiz_book(a: u32, b: u32, limit: u32, output: *mut u8, length: usize) -> u64;
     }
 }
 
@@ -107,4 +108,9 @@ pub fn catalogue(survey: &[u8], threshold: u32, limit: u32, output: &mut [u8]) -
             output.len(),
         )
     }
+}
+
+/// The book of all small patterns. Count: entries.
+pub fn book(a: u32, b: u32, limit: u32, output: &mut [u8]) -> u64 {
+    unsafe { linked::holvreiz_book(a, b, limit, output.as_mut_ptr(), output.len()) }
 }

@@ -203,6 +203,41 @@ fn lone_devices() {
 }
 
 #[test]
+fn the_book_of_small_patterns() {
+    let mut output = [9; 3 * holvreiz::ENTRY_BYTES];
+    assert_eq!(holvreiz::book(1, 1, 2, &mut output), Ok(2));
+    let (one, rest) = output.split_at(holvreiz::ENTRY_BYTES);
+    let (two, behind) = rest.split_at(holvreiz::ENTRY_BYTES);
+    assert_eq!(one[..7], [1, 0, 0, 1, 0, 0, 0]);
+    assert_eq!(two[..12], [2, 0, 0, 1, 0, 0, 0, 1, 2, 0, 0, 0]);
+    assert!(one[7..].iter().chain(&two[12..]).all(|&byte| byte == 0));
+    assert_eq!(behind, [9; holvreiz::ENTRY_BYTES]);
+
+    let mut largest = vec![9; 81_774];
+    assert_eq!(holvreiz::book(3, 3, 3, &mut largest), Ok(1947));
+    let last = &largest[largest.len() - holvreiz::ENTRY_BYTES..];
+    assert_eq!(last[..7], [3, 0, 0, 1, 2, 2, 2]);
+}
+
+#[test]
+fn books_that_are_refused() {
+    let mut output = [9; 41];
+    for (a, b, limit, refusal) in [
+        (0, 1, 1, Refusal::KindCount),
+        (1, 4, 0, Refusal::KindCount),
+        (257, 1, 1, Refusal::KindCount),
+        (1, 1, 4, Refusal::BookLimit),
+        (3, 3, 0, Refusal::BookLimit),
+    ] {
+        assert_eq!(holvreiz::book(a, b, limit, &mut output), Err(refusal));
+        assert_eq!(output, [9; 41]);
+    }
+    let short = holvreiz::book(1, 1, 1, &mut output);
+    assert_eq!(short, Err(Refusal::OutputLength));
+    assert_eq!(output, [0; 41]);
+}
+
+#[test]
 fn refusals_have_the_numbers_of_the_format() {
     for (place, refusal) in Refusal::ALL.iter().enumerate() {
         assert_eq!(usize::from(refusal.number()), place + 1);
@@ -210,5 +245,10 @@ fn refusals_have_the_numbers_of_the_format() {
     assert_eq!(
         Refusal::SurveyLength.to_string(),
         "refused 14: a survey has no drawing, or over 32"
+    );
+    assert_eq!(Refusal::KindCount.number(), 16);
+    assert_eq!(
+        Refusal::BookLimit.to_string(),
+        "refused 17: a book's size limit is not 1 to 3"
     );
 }

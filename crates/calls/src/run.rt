@@ -1,11 +1,13 @@
 // A call by its settings (which call, s, L, how many bytes are lent: numbers of two bytes), with what it answers and leaves in
 // the lent bytes printed.
+use crate::book::write_kinds;
 use drawing_calls::ask::ask;
 use drawing_calls::write::write_one;
 use survey_calls::catalogue::write_entries;
 use survey_calls::fetch::fetch_listed;
 use transcript::answer::Answer;
 use transcript::bytes::two_bytes;
+use transcript::call::BOOK;
 use transcript::call::FETCH;
 use transcript::call::WRITE_CATALOGUE;
 use transcript::print::print_answer;
@@ -22,6 +24,8 @@ fn write(settings: &[u8], first: &[u8], second: &[u8], output: &mut [u8]) -> Ans
     let call = two_bytes(settings, 0);
     if call < WRITE_CATALOGUE {
         write_one(call, first, second, output)
+    } else if call == BOOK {
+        write_kinds(first, two_bytes(settings, 4), output)
     } else {
         write_entries(
             call,

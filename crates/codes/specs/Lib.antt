@@ -19,6 +19,7 @@ pub mod FullCode
 pub mod LeastCode
 pub mod Decoded
 pub mod CodeBytes
+pub mod CodeFronts
 pub mod AppendedRecordLaws
 pub mod CodesTell
 pub mod SectionCodes

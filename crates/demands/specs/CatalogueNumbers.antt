@@ -1,92 +1,110 @@
--- The number of a catalogue's answer tells its parts: no catalogue has so many entries that their count reaches 2^32. Rests on what the
+-- The number of a list's answer tells its parts: no catalogue and no book has so many entries that their count reaches 2^32. Rests on what the
 -- call says and on how many entries there can be. Assumes nothing.
-use mathlib.Core.Path.{_≡_, refl, sym, ap, _∙_}
+use mathlib.Core.Path.{_≡_, refl, ap, _∙_}
 use mathlib.Core.Bool.{Bool, true, false}
 use mathlib.Core.List.{List}
 use Prim.Native.Nat.{ℕ, zero, suc, _*_, _≤_, _<_}
 use native.Mathlib.Omega.{arith}
 use lib.Dec.{ltb, lit<, lit≤}
 use lib.ListN.{length}
+use Rattle.graphs.specs.Drawing.{Drawing}
 use Rattle.graphs.specs.Survey as surveys
 use Rattle.graphs.specs.Survey.{survey, survey-refusal}
-use Rattle.growth.specs.Catalogue.{Entry}
+use Rattle.codes.specs.Code.{kinds-before}
+use Rattle.growth.specs.Catalogue.{Entry, List-of, Often, support-in}
+use Rattle.books.specs.Book.{Small, unsupported, book-refusal}
+use Rattle.books.specs.BookSettings.{settings-fit}
+use Rattle.books.specs.BookCount.{book-most}
 use Rattle.records.specs.declared.catalogued.Catalogued.{Catalogued}
 use Rattle.records.specs.declared.catalogued.Catalogued.the-variants.{Entries, Refused}
 use Rattle.records.specs.Catalogued.{catalogued-refusal, catalogued-count}
-use Rattle.mining.specs.CatalogueSays.{Entries-written, Catalogue-as, Catalogue-says}
+use Rattle.entries.specs.Written.{Entries-written, List-as, List-says}
 use Rattle.holvreiz.specs.Packed.{packed}
 use Rattle.records.specs.Refusals.{number-small}
 use Rattle.holvreiz.specs.PackedLaws.{Tells, packed-tells}
-use Rattle.holvreiz.specs.Returns.{Catalogue-returns}
-use Rattle.demands.specs.Terms.{Catalogue-refused, Catalogue-returned}
-use Rattle.demands.specs.RefusedLaws.{catalogue-turned-back}
+use Rattle.holvreiz.specs.Returns.{Catalogue-returns, Book-returns}
+use Rattle.demands.specs.Terms.{List-refused, List-returned, Catalogue-returned, Book-returned}
+use Rattle.demands.specs.RefusedLaws.{list-turned-back}
 use Rattle.growth.specs.SurveySizes.{catalogue-most}
 
--- WHAT IS COUNTED: at most 8,446,368
-pub catalogued-most : (bs : List ℕ) (s l : ℕ) (r : Catalogued) (o z : List ℕ) → Catalogue-says bs s l r o z → catalogued-count r ≤ 8446368
-catalogued-most bs s l r o z says = go (survey-refusal bs s l .number) refl says
-  where
-    written : (t : Bool) (es : List Entry) → length es ≤ 8446368 → Entries-written t es r o z → catalogued-count r ≤ 8446368
-    written true es h w = rw (w .0) (lit≤ tt)
-    written false es h w = rw (w .0) h
+-- WHAT IS COUNTED: no more than any list of the family has
+module _ (f : surveys.Refusal) (Wanted : Drawing → Type 0) (figure : Drawing → ℕ) (l most : ℕ)
+    (bound : f .number ≡ 0 → (es : List Entry) → List-of kinds-before Wanted figure l es → length es ≤ most) where
+  counted-most : (r : Catalogued) (o z : List ℕ) → List-says f Wanted figure l r o z → catalogued-count r ≤ most
+  counted-most r o z says = go (f .number) refl says
+    where
+      written : (t : Bool) (es : List Entry) → length es ≤ most → Entries-written t es r o z → catalogued-count r ≤ most
+      written true es h w = rw (w .0) (omega arith)
+      written false es h w = rw (w .0) h
 
-    none : (r : Catalogued) (f : surveys.Refusal) (n : ℕ) → f .number ≡ suc n → catalogued-refusal r ≡ f → catalogued-count r ≤ 8446368
-    none (Entries k) f n e h = absurd (entries-not k f n e h)
+      none : (r : Catalogued) (n : ℕ) → f .number ≡ suc n → catalogued-refusal r ≡ f → catalogued-count r ≤ most
+      none (Entries k) n e h = absurd (entries-not k n e h)
+        where
+          entries-not : (k n : ℕ) → f .number ≡ suc n → catalogued-refusal (Entries k) ≡ f → ⊥
+          entries-not k n e h =
+              let zero-number : catalogued-refusal (Entries k) .number ≡ 0 = unfold surveys.refusal in refl in
+              omega (arith, e, zero-number, ap (λ (x : surveys.Refusal). x .number) h)
+      none (Refused x d) n e h = omega arith
+
+      go : (n : ℕ) → f .number ≡ n → List-as n f Wanted figure l r o z → catalogued-count r ≤ most
+      go zero e (es, c, w) = written (ltb (length o) (42 * length es)) es (bound e es c) w
+      go (suc n) e (g, w) = none r n e g
+
+  -- THE NUMBER of an answer tells its parts, and with them what the call refuses
+  module _ (low : most < 4294967296) (r : Catalogued) (x : ℕ)
+      (is : x ≡ packed (catalogued-refusal r .number) (catalogued-count r) (catalogued-refusal r .drawing)) (o z : List ℕ)
+      (says : List-says f Wanted figure l r o z) where
+    tells : Tells x (catalogued-refusal r .number) (catalogued-count r) (catalogued-refusal r .drawing)
+    tells = rw is (packed-tells _ _ _ (omega (arith, refusal-small r)) (omega (arith, counted-most r o z says)))
       where
-        entries-not : (k : ℕ) (f : surveys.Refusal) (n : ℕ) → f .number ≡ suc n → catalogued-refusal (Entries k) ≡ f → ⊥
-        entries-not k f n e h =
-            let zero-number : catalogued-refusal (Entries k) .number ≡ 0 = unfold surveys.refusal in refl in
-            omega (arith, e, zero-number, ap (λ (x : surveys.Refusal). x .number) h)
-    none (Refused x d) f n e h = lit≤ tt
+        refusal-small : (r : Catalogued) → catalogued-refusal r .number ≤ 17
+        refusal-small (Entries n) = unfold surveys.refusal in lit≤ tt
+        refusal-small (Refused r d) = unfold surveys.refusal in number-small r
 
-    go : (n : ℕ) → survey-refusal bs s l .number ≡ n → Catalogue-as n (survey-refusal bs s l) (survey bs) s l r o z → catalogued-count r ≤ 8446368
-    go zero e (es, c, w) = written (ltb (length o) (42 * length es)) es (catalogue-most bs s l es e c) w
-    go (suc n) e (f, w) = none r (survey-refusal bs s l) n e f
+    pub c-list-refused : List-returned f Wanted figure l x o z
+    unfolding surveys.refusal
+    c-list-refused =
+        record {
+          early = λ h.
+              let e = told .early h in
+              (t .refusal-in ∙ ap number-at (e .0), t .drawing-in ∙ ap drawing-at (e .0), t .count-in ∙ e .1, e .2);
+          short = λ fine es k h.
+              let e = told .short fine es k h in (
+                t .refusal-in ∙ ap (λ (r : Catalogued). catalogued-refusal r .number) (e .0),
+                t .drawing-in ∙ ap (λ (r : Catalogued). catalogued-refusal r .drawing) (e .0),
+                t .count-in ∙ ap catalogued-count (e .0),
+                e .1,
+              );
+          enough = λ fine es k h.
+              let e = told .enough fine es k h in (
+                t .refusal-in ∙ ap (λ (r : Catalogued). catalogued-refusal r .number) (e .0),
+                t .drawing-in ∙ ap (λ (r : Catalogued). catalogued-refusal r .drawing) (e .0),
+                t .count-in ∙ ap catalogued-count (e .0),
+                e .1,
+              );
+        }
+      where
+        told : List-refused f Wanted figure l r o z
+        told = list-turned-back f Wanted figure l r o z says
 
--- THE NUMBER of a catalogue tells its parts
-pub catalogue-tells :
-    {bs : List ℕ} {s l x : ℕ} {o z : List ℕ} → (c : Catalogue-returns bs s l x o z)
-    → Tells x (catalogued-refusal (c .answer) .number) (catalogued-count (c .answer)) (catalogued-refusal (c .answer) .drawing)
-catalogue-tells {bs} {s} {l} {x} {o} {z} c =
-    rw (c .number)
-    (packed-tells _ _ _ (omega (arith, refusal-small (c .answer))) (omega (arith, catalogued-most bs s l (c .answer) o z (c .says))))
-  where
-    refusal-small : (r : Catalogued) → catalogued-refusal r .number ≤ 15
-    refusal-small (Entries n) = unfold surveys.refusal in lit≤ tt
-    refusal-small (Refused r d) = unfold surveys.refusal in number-small r
+        t : Tells x (catalogued-refusal r .number) (catalogued-count r) (catalogued-refusal r .drawing)
+        t = tells
 
--- FROM C: 12, 13, 1, 14, then 2 to 8 with the drawing; then 15; or the number of entries
+        number-at : surveys.Refusal → ℕ
+        number-at g = g .number
+
+        drawing-at : surveys.Refusal → ℕ
+        drawing-at g = g .drawing
+
+-- FROM C: 12, 13, 1, 14, then 2 to 8 with the drawing; then 15; or the number of entries, at most 8,446,368
 pub c-catalogue-refused : (bs : List ℕ) (s l x : ℕ) (o z : List ℕ) → Catalogue-returns bs s l x o z → Catalogue-returned bs s l x o z
-unfolding surveys.refusal
 c-catalogue-refused bs s l x o z c =
-    record {
-      early = λ h.
-          let e = told .early h in
-          (t .refusal-in ∙ ap number-at (e .0), t .drawing-in ∙ ap drawing-at (e .0), t .count-in ∙ e .1, e .2);
-      short = λ fine es k h.
-          let e = told .short fine es k h in (
-            t .refusal-in ∙ ap (λ (r : Catalogued). catalogued-refusal r .number) (e .0),
-            t .drawing-in ∙ ap (λ (r : Catalogued). catalogued-refusal r .drawing) (e .0),
-            t .count-in ∙ ap catalogued-count (e .0),
-            e .1,
-          );
-      enough = λ fine es k h.
-          let e = told .enough fine es k h in (
-            t .refusal-in ∙ ap (λ (r : Catalogued). catalogued-refusal r .number) (e .0),
-            t .drawing-in ∙ ap (λ (r : Catalogued). catalogued-refusal r .drawing) (e .0),
-            t .count-in ∙ ap catalogued-count (e .0),
-            e .1,
-          );
-    }
-  where
-    told : Catalogue-refused bs s l (c .answer) o z
-    told = catalogue-turned-back bs s l (c .answer) o z (c .says)
+    c-list-refused (survey-refusal bs s l) (Often (survey bs) s) (support-in (survey bs)) l 8446368 (λ e es k. catalogue-most bs s l es e k) (lit< tt)
+    (c .answer) x (c .number) o z (c .says)
 
-    t : Tells x (catalogued-refusal (c .answer) .number) (catalogued-count (c .answer)) (catalogued-refusal (c .answer) .drawing)
-    t = catalogue-tells c
-
-    number-at : surveys.Refusal → ℕ
-    number-at f = f .number
-
-    drawing-at : surveys.Refusal → ℕ
-    drawing-at f = f .drawing
+-- 16, 17; then 15; or the number of entries, far below 2^32
+pub c-book-refused : (a b l x : ℕ) (o z : List ℕ) → Book-returns a b l x o z → Book-returned a b l x o z
+unfolding surveys.refusal
+c-book-refused a b l x o z c =
+    c-list-refused (surveys.refusal (book-refusal a b l) 0) (Small a b) unsupported l 196975827
+    (λ e es k. let s = settings-fit a b l e in book-most a b l (s .0) (s .1) (s .2) es k) (lit< tt) (c .answer) x (c .number) o z (c .says)

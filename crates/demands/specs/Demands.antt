@@ -1,5 +1,5 @@
--- THE THREE DEMANDS, and the rules of matching, of the order and of lone sections: each a record of statements over the bytes that a caller sees, and
--- a theorem that proves it. A statement's hypothesis is what the contract of a public entry says of its answer: `Code-says`,
+-- THE THREE DEMANDS, and the rules of matching, of the order, of lone sections and of the book: each a record of statements over the bytes that
+-- a caller sees, and a theorem that proves it. A statement's hypothesis is what the contract of a public entry says of its answer: `Code-says`,
 -- `Decode-says`, `Catalogue-says` and so on, from C `Code-returns` and its fellows. It holds of whatever the call answers (r, v or
 -- t), where the lent output was o before the call and is z after it. Terms.antt has the terms that only these statements need. That
 -- an answer and every lent byte follow from the input is in Determined.antt. Assumes nothing.
@@ -61,6 +61,9 @@ use Rattle.matching.specs.declared.answer.Sameness.{Sameness}
 use Rattle.matching.specs.declared.answer.Sameness.the-variants as sameness
 use Rattle.matching.specs.MatchAnswers.{match-refusal, match-count, same-refusal, same-value, Match-says, Same-says}
 use Rattle.mining.specs.CatalogueSays.{Catalogue-says}
+use Rattle.books.specs.Book.{Book-there}
+use Rattle.books.specs.Books.{book-there}
+use Rattle.pattern_book.specs.BookSays.{Book-says}
 use Rattle.printing.specs.declared.answer.Printed.{Printed}
 use Rattle.text_lines.specs.Texts.{text-of}
 use Rattle.printing.specs.Says.{Text-says}
@@ -72,6 +75,7 @@ use Rattle.holvreiz.specs.Returns.{
   Match-returns,
   Same-returns,
   Catalogue-returns,
+  Book-returns,
 }
 use Rattle.demands.specs.Terms.{
   written-bytes,
@@ -83,6 +87,8 @@ use Rattle.demands.specs.Terms.{
   Returned-as,
   Catalogue-refused,
   Catalogue-returned,
+  Book-refused,
+  Book-returned,
   Mapped,
   Drawn,
   Order-clauses,
@@ -92,10 +98,11 @@ use Rattle.demands.specs.Terms.{
   No-device,
   lone-five,
   Whole-catalogue,
+  Whole-book,
 }
 use Rattle.demands.specs.RefusedLaws as refused
 use Rattle.demands.specs.EntryRefusals as entries
-use Rattle.demands.specs.CatalogueNumbers.{c-catalogue-refused}
+use Rattle.demands.specs.CatalogueNumbers.{c-catalogue-refused, c-book-refused}
 use Rattle.demands.specs.Coding.{accepted-refusal, code-is-least, back-exactly-least, yes-exactly-back}
 use Rattle.demands.specs.CodeWays.{
   code-drawn,
@@ -106,6 +113,7 @@ use Rattle.demands.specs.CodeWays.{
 }
 use Rattle.demands.specs.Sameness.{yes-exactly-equal-bytes}
 use Rattle.demands.specs.WholeCatalogues.{whole-catalogue}
+use Rattle.demands.specs.WholeBooks.{whole-book}
 use Rattle.demands.specs.Matches as matches
 use Rattle.demands.specs.Comparisons as comparisons
 use Rattle.demands.specs.OrderClauses.{order-clauses}
@@ -114,7 +122,7 @@ use Rattle.demands.specs.LoneSurveys.{supports-none, survey-empty, lone-
 
 -- THE FIRST DEMAND: every public entry, on any bytes of any length, gives its answer or the one refusal of the paper's table: the first
 -- place that applies, from the top, of two drawings or codes the first one's before the second's. A refusal writes nothing; only
--- 15 of a catalogue leaves the whole lent output zero. (A call that lends no output has none before and none after.) The usual
+-- 15 of a catalogue or of the book leaves the whole lent output zero. (A call that lends no output has none before and none after.) The usual
 -- catalogue is `catalogue` at 2 and 4.
 pub record First-demand : Type 0 where
   -- the checks: 1 to 8; 1, 14; these and then 2 to 8 with the drawing; 9 to 11
@@ -143,6 +151,8 @@ pub record First-demand : Type 0 where
       → Refused-as (first-of (drawing-refusal xs) (drawing-refusal ys)) (same-refusal t) (same-value t) [] []
   -- 12, 13, 1, 14, then 2 to 8 with the drawing; then 15 exactly if the entries that the third demand gives do not fit
   pub catalogue : (bs : List ℕ) (s l : ℕ) (r : Catalogued) (o z : List ℕ) → Catalogue-says bs s l r o z → Catalogue-refused bs s l r o z
+  -- 16, 17; then 15 exactly if the entries of the book do not fit
+  pub book : (a b l : ℕ) (r : Catalogued) (o z : List ℕ) → Book-says a b l r o z → Book-refused a b l r o z
   -- the text of an answer has no refusal of the paper: it is made whole or not at all
   pub text : (a : Catalogued) (es : List ℕ) (r : Printed) (o z : List ℕ) → Text-says a es r o z → Text-made (text-of a es) r o z
   -- the same from C: refusal, count and drawing stand in the number that is returned
@@ -159,6 +169,7 @@ pub record First-demand : Type 0 where
   pub c-same : (xs ys : List ℕ) (x : ℕ) (c : Same-returns xs ys x)
       → Returned-as (first-of (drawing-refusal xs) (drawing-refusal ys)) x (same-value (c .answer)) [] []
   pub c-catalogue : (bs : List ℕ) (s l x : ℕ) (o z : List ℕ) → Catalogue-returns bs s l x o z → Catalogue-returned bs s l x o z
+  pub c-book : (a b l x : ℕ) (o z : List ℕ) → Book-returns a b l x o z → Book-returned a b l x o z
 
 pub first-demand : First-demand
 first-demand =
@@ -175,6 +186,7 @@ first-demand =
       match-drawing = refused.match-turned-back;
       same = refused.same-turned-back;
       catalogue = refused.catalogue-turned-back;
+      book = refused.book-turned-back;
       text = entries.text-made;
       c-code = entries.c-code-refused;
       c-decode = entries.c-decode-refused;
@@ -183,6 +195,7 @@ first-demand =
       c-match = entries.c-match-refused;
       c-same = entries.c-same-refused;
       c-catalogue = c-catalogue-refused;
+      c-book = c-book-refused;
     }
 
 -- A CALL OF CODING with an accepted drawing and bytes enough; one of decoding with an accepted code and bytes enough
@@ -364,3 +377,13 @@ lone-rule =
       survey-empty = survey-empty;
       adds-none = lone-adds-none;
     }
+
+-- THE RULE OF THE BOOK, as the third demand has it of a catalogue: each pattern of 1 to l cables with device kinds below a and cable kinds below
+-- b has just one entry, with its least code and support 0, there is no other entry, and codes rise (`Whole-book`, field by field); and for all a,
+-- b and l there is just one such list
+pub record Book-rule : Type 0 where
+  pub whole : (a b l n : ℕ) (o z : List ℕ) → Book-says a b l (Entries n) o z → Whole-book a b l n o z
+  pub there : Book-there
+
+pub book-rule : Book-rule
+book-rule = record { whole = whole-book; there = book-there }

@@ -1,6 +1,6 @@
 -- The answer of each call and every lent byte follow from its input: two outcomes that its contract allows are equal. Only where an
 -- empty part of a refused survey lies is the reader's choice; what every choice has in common is that it has no byte. Rests on what each
--- call says, on one least code and one catalogue, and on a refusal's number telling its case. Assumes nothing.
+-- call says, on one least code and one list of a family, and on a refusal's number telling its case. Assumes nothing.
 use mathlib.Core.Path.{_≡_, refl, sym, ap, ap₂, subst, _∙_}
 use mathlib.Core.Bool.{Bool, true, false}
 use mathlib.Core.List.{List, []}
@@ -22,8 +22,9 @@ use Rattle.codes.specs.Code.{Rec, code-records, kinds-before}
 use Rattle.codes.specs.CodeOrder.{kinds-order}
 use Rattle.codes.specs.SectionCodes.{least-section-unique}
 use Rattle.codes.specs.SectionCode.{section-records}
-use Rattle.growth.specs.Catalogue.{Entry}
-use Rattle.growth.specs.Catalogues.{catalogue-unique}
+use Rattle.growth.specs.Catalogue.{Entry, Often, support-in}
+use Rattle.growth.specs.FamilyLists.{list-unique}
+use Rattle.books.specs.Book.{Small, unsupported, book-refusal}
 use Rattle.records.specs.declared.refusal.Refusal.{Refusal}
 use Rattle.records.specs.declared.refusal.Checked.{Checked}
 use Rattle.records.specs.declared.refusal.Checked.the-variants as checked
@@ -59,8 +60,10 @@ use Rattle.matching.specs.MatchAnswers.{
   Same-as,
   Same-says,
 }
-use Rattle.mining.specs.CatalogueSays.{Catalogue-as, Catalogue-says}
-use Rattle.mining.specs.CatalogueSays as says
+use Rattle.entries.specs.Written as says
+use Rattle.entries.specs.Written.{List-as, List-says}
+use Rattle.mining.specs.CatalogueSays.{Catalogue-says}
+use Rattle.pattern_book.specs.BookSays.{Book-says}
 use Rattle.reader.specs.declared.reader.Opened.{Opened}
 use Rattle.reader.specs.declared.reader.Fetched.{Fetched}
 use Rattle.reader.specs.Readers.{Opens, Fetches, Fetch-gives}
@@ -77,6 +80,7 @@ use Rattle.holvreiz.specs.Returns.{
   Match-returns,
   Same-returns,
   Catalogue-returns,
+  Book-returns,
 }
 use Rattle.demands.specs.RefusalCases.{
   Plain,
@@ -88,6 +92,7 @@ use Rattle.demands.specs.RefusalCases.{
   length-plain,
   bytes-plain,
   survey-plain,
+  book-plain,
 }
 
 -- THE SAME OUTCOME: the answer, and every lent byte
@@ -246,22 +251,27 @@ entries-determined :
 entries-determined true es o z w r s a b = (a .0 ∙ sym (b .0), a .1 ∙ sym (b .1))
 entries-determined false es o z w r s a b = (a .0 ∙ sym (b .0), a .1 ∙ sym (b .1))
 
-pub catalogue-determined :
-    (bs : List ℕ) (t l : ℕ) (o z w : List ℕ) (r s : Catalogued) → Catalogue-says bs t l r o z → Catalogue-says bs t l s o w → Agree r s z w
-catalogue-determined bs t l o z w r s = go (f .number) refl
+list-determined :
+    (f : surveys.Refusal) → Plain (f .number) → (Wanted : Drawing → Type 0) (figure : Drawing → ℕ) (l : ℕ) (o z w : List ℕ) (r s : Catalogued)
+    → List-says f Wanted figure l r o z → List-says f Wanted figure l s o w → Agree r s z w
+list-determined f plain-number Wanted figure l o z w r s = go (f .number) refl
   where
-    f : surveys.Refusal
-    f = survey-refusal bs t l
-
-    ds : List Drawing
-    ds = survey bs
-
-    go : (n : ℕ) → f .number ≡ n → Catalogue-as n f ds t l r o z → Catalogue-as n f ds t l s o w → Agree r s z w
+    go : (n : ℕ) → f .number ≡ n → List-as n f Wanted figure l r o z → List-as n f Wanted figure l s o w → Agree r s z w
     go zero e a b =
-        let one : b .0 ≡ a .0 = catalogue-unique kinds-before kinds-order ds t l (b .0) (a .0) (b .1) (a .1) in
+        let one : b .0 ≡ a .0 = list-unique kinds-before kinds-order Wanted figure l (b .0) (a .0) (b .1) (a .1) in
         entries-determined (ltb (length o) (42 * length (a .0))) (a .0) o z w r s (a .2)
         (subst (λ (es : List Entry). says.Entries-written (ltb (length o) (42 * length es)) es s o w) one (b .2))
-    go (suc n) e a b = (catalogued-case f n e (survey-plain bs t l) r s (a .0) (b .0), a .1 ∙ sym (b .1))
+    go (suc n) e a b = (catalogued-case f n e plain-number r s (a .0) (b .0), a .1 ∙ sym (b .1))
+
+pub catalogue-determined :
+    (bs : List ℕ) (t l : ℕ) (o z w : List ℕ) (r s : Catalogued) → Catalogue-says bs t l r o z → Catalogue-says bs t l s o w → Agree r s z w
+catalogue-determined bs t l = list-determined (survey-refusal bs t l) (survey-plain bs t l) (Often (survey bs) t) (support-in (survey bs)) l
+
+-- THE BOOK
+pub book-determined :
+    (a b l : ℕ) (o z w : List ℕ) (r s : Catalogued) → Book-says a b l r o z → Book-says a b l s o w → Agree r s z w
+unfolding surveys.refusal
+book-determined a b l = list-determined (surveys.refusal (book-refusal a b l) 0) (book-plain a b l) (Small a b) unsupported l
 
 -- THE TEXT of an answer
 made-determined : (t : Bool) (bs o z w : List ℕ) (r s : Printed) → Made t bs r o z → Made t bs s o w → Agree r s z w
@@ -338,5 +348,15 @@ c-catalogue-determined bs t l o z w x y a b =
       a .number
           ∙ ap (λ (r : Catalogued). packed (catalogued-refusal r .number) (catalogued-count r) (catalogued-refusal r .drawing)) (e .0)
           ∙ sym (b .number),
+      e .1,
+    )
+
+pub c-book-determined :
+    (a b l : ℕ) (o z w : List ℕ) (x y : ℕ) → Book-returns a b l x o z → Book-returns a b l y o w → Agree x y z w
+c-book-determined a b l o z w x y c d =
+    let e = book-determined a b l o z w (c .answer) (d .answer) (c .says) (d .says) in (
+      c .number
+          ∙ ap (λ (r : Catalogued). packed (catalogued-refusal r .number) (catalogued-count r) (catalogued-refusal r .drawing)) (e .0)
+          ∙ sym (d .number),
       e .1,
     )

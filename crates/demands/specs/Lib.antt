@@ -14,7 +14,9 @@ pub mod Coding
 pub mod CodeWays
 -- Why the third and the rules hold.
 pub mod Sameness
+pub mod WholeLists
 pub mod WholeCatalogues
+pub mod WholeBooks
 pub mod Supports
 pub mod ReadEntries
 pub mod Matches

@@ -94,7 +94,7 @@ same-catalogue ds es s l gs same c =
             least = f .least;
             size = f .size;
             support-is = sym (same (f .pattern) (pattern-from-test (f .pattern) (f .is-one))) ∙ f .support-is;
-            frequent = f .frequent;
+            wanted = omega (arith, same (f .pattern) (pattern-from-test (f .pattern) (f .is-one)), f .wanted);
           };
       whole = λ p rs i h g t.
           let e = same p (pattern-from-test p i) in

@@ -9,6 +9,7 @@ use borrow.Author.Tests.{eqb-false}
 use Rattle.graphs.specs.Drawing.{Cable, drawing-in, joined-by, cable-refusal, cables-fit, unused-zero, connected, drawing-refusal}
 use Rattle.graphs.specs.Survey as surveys
 use Rattle.graphs.specs.Survey.{records-in, length-refusal, drawings-refusal, bytes-refusal, survey-refusal}
+use Rattle.books.specs.Book.{one-to-three, book-refusal}
 use Rattle.records.specs.declared.refusal.Refusal.{Refusal}
 use Rattle.records.specs.declared.refusal.Refusal.the-variants.{
   DrawingLength,
@@ -26,6 +27,8 @@ use Rattle.records.specs.declared.refusal.Refusal.the-variants.{
   SizeLimit,
   SurveyLength,
   OutputLength,
+  KindCount,
+  BookLimit,
 }
 use Rattle.records.specs.Refusals.{number-of, first-of}
 
@@ -43,7 +46,8 @@ case-of n =
     (cond (eqb n 9) CodeLength
     (cond (eqb n 12) Threshold
     (cond (eqb n 13) SizeLimit
-    (cond (eqb n 14) SurveyLength OutputLength)))))))))))
+    (cond (eqb n 14) SurveyLength
+    (cond (eqb n 16) KindCount (cond (eqb n 17) BookLimit OutputLength)))))))))))))
 
 -- no record of a code is named
 pub record Plain (n : ℕ) : Type 0 where
@@ -67,6 +71,8 @@ case-back Threshold p = refl
 case-back SizeLimit p = refl
 case-back SurveyLength p = refl
 case-back OutputLength p = refl
+case-back KindCount p = refl
+case-back BookLimit p = refl
 
 pub number-tells-case : (r s : Refusal) → Plain (number-of r) → number-of r ≡ number-of s → r ≡ s
 number-tells-case r s p e = sym (case-back r p) ∙ ap case-of e ∙ case-back s (rw (sym e) p)
@@ -131,3 +137,9 @@ unfolding survey-refusal surveys.refusal
 survey-plain bs s l =
     either-refusal (not (leb 1 s && leb s 32)) _ _ (plain 12 refl refl)
     (either-refusal (not (leb 1 l && leb l 8)) _ _ (plain 13 refl refl) (bytes-plain bs))
+
+-- of the book
+pub book-plain : (a b l : ℕ) → Plain (book-refusal a b l)
+unfolding book-refusal
+book-plain a b l =
+    either (not (one-to-three a && one-to-three b)) (plain 16 refl refl) (either (not (one-to-three l)) (plain 17 refl refl) (plain 0 refl refl))

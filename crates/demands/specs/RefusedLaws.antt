@@ -17,8 +17,9 @@ use Rattle.graphs.specs.Map.{least-map}
 use Rattle.codes.specs.Code.{code-records, kinds-before}
 use Rattle.codes.specs.CodeOrder.{kinds-order}
 use Rattle.codes.specs.SectionCode.{section-code-refusal, section-records}
-use Rattle.growth.specs.Catalogue.{Entry, Catalogue}
-use Rattle.growth.specs.Catalogues.{catalogue-unique}
+use Rattle.growth.specs.Catalogue.{Entry, List-of, Often, support-in}
+use Rattle.growth.specs.FamilyLists.{list-unique}
+use Rattle.books.specs.Book.{Small, unsupported, book-refusal}
 use Rattle.records.specs.declared.refusal.Checked.{Checked}
 use Rattle.records.specs.declared.refusal.Checked.the-variants.{Accepted, Refused}
 use Rattle.records.specs.Refusals.{checked-number}
@@ -53,9 +54,11 @@ use Rattle.matching.specs.MatchAnswers.{
 use Rattle.records.specs.declared.catalogued.Catalogued.{Catalogued}
 use Rattle.records.specs.declared.catalogued.Catalogued.the-variants as catalogued
 use Rattle.records.specs.Catalogued.{catalogued-refusal, catalogued-count}
-use Rattle.mining.specs.CatalogueSays.{Entries-written as Written-entries, Catalogue-as, Catalogue-says}
+use Rattle.entries.specs.Written.{Entries-written as Written-entries, List-written, List-as, List-says}
+use Rattle.mining.specs.CatalogueSays.{Catalogue-says}
+use Rattle.pattern_book.specs.BookSays.{Book-says}
 use Rattle.demands.specs.Coding.{least-refusal}
-use Rattle.demands.specs.Terms.{too-short, Refused-as, Catalogue-refused}
+use Rattle.demands.specs.Terms.{too-short, Refused-as, List-refused, Catalogue-refused, Book-refused}
 
 -- CODING
 code-as-refused : (n : ℕ) (d : Drawing) (r : Written) (o z : List ℕ) → Code-as n d r o z
@@ -151,32 +154,28 @@ pub same-turned-back : (xs ys : List ℕ) (r : Sameness) → Same-says xs ys r
 unfolding Same-says
 same-turned-back xs ys r s = same-as-refused (first-of (drawing-refusal xs) (drawing-refusal ys)) (drawing-in xs) (drawing-in ys) r s
 
--- THE CATALOGUE
-module _ (bs : List ℕ) (s l : ℕ) (r : Catalogued) (o z : List ℕ) where
-  abbrev refused : surveys.Refusal
-  refused = survey-refusal bs s l
-
-  early : (n : ℕ) → refused .number ≡ n → Catalogue-as n refused (survey bs) s l r o z → 0 < n
-      → (catalogued-refusal r ≡ refused) × (catalogued-count r ≡ 0) × (z ≡ o)
+-- A LIST of patterns
+module _ (f : surveys.Refusal) (Wanted : Drawing → Type 0) (figure : Drawing → ℕ) (l : ℕ) (r : Catalogued) (o z : List ℕ) where
+  early : (n : ℕ) → f .number ≡ n → List-as n f Wanted figure l r o z → 0 < n → (catalogued-refusal r ≡ f) × (catalogued-count r ≡ 0) × (z ≡ o)
   early zero e a h = absurd (not-suc-le-zero h)
-  early (suc n) e (f, w) h = (f, uncounted r f, w)
+  early (suc n) e (g, w) h = (g, uncounted r g, w)
     where
-      uncounted : (r : Catalogued) → catalogued-refusal r ≡ refused → catalogued-count r ≡ 0
+      uncounted : (r : Catalogued) → catalogued-refusal r ≡ f → catalogued-count r ≡ 0
       uncounted (catalogued.Entries k) q =
           let none : catalogued-refusal (catalogued.Entries k) .number ≡ 0 = unfold surveys.refusal in refl in
           absurd (omega (arith, ap (λ (x : surveys.Refusal). x .number) q))
       uncounted (catalogued.Refused x d) q = refl
 
-  -- the entries that are written, or do not fit, are those of any catalogue of the survey: there is just one
-  module _ (fine : refused .number ≡ 0) (says : Catalogue-says bs s l r o z) where
-    mined : (es : List Entry) × Catalogue (survey bs) s l es × Written-entries (ltb (length o) (42 * length es)) es r o z
-    mined = subst (λ (n : ℕ). Catalogue-as n refused (survey bs) s l r o z) fine says
+  -- the entries that are written, or do not fit, are those of any list of the family: there is just one
+  module _ (fine : f .number ≡ 0) (says : List-says f Wanted figure l r o z) where
+    listed : List-written Wanted figure l o r z
+    listed = subst (λ (n : ℕ). List-as n f Wanted figure l r o z) fine says
 
-    module _ (es : List Entry) (c : Catalogue (survey bs) s l es) where
+    module _ (es : List Entry) (c : List-of kinds-before Wanted figure l es) where
       written : Written-entries (ltb (length o) (42 * length es)) es r o z
       written =
           subst (λ (gs : List Entry). Written-entries (ltb (length o) (42 * length gs)) gs r o z)
-          (catalogue-unique kinds-before kinds-order (survey bs) s l (mined .0) es (mined .1) c) (mined .2)
+          (list-unique kinds-before kinds-order Wanted figure l (listed .0) es (listed .1) c) (listed .2)
 
       short : length o < 42 * length es → Written-entries true es r o z
       short h = subst (λ (t : Bool). Written-entries t es r o z) (lt-ltb (length o) (42 * length es) h) written
@@ -184,11 +183,17 @@ module _ (bs : List ℕ) (s l : ℕ) (r : Catalogued) (o z : List ℕ) where
       enough : 42 * length es ≤ length o → Written-entries false es r o z
       enough h = subst (λ (t : Bool). Written-entries t es r o z) (le-ltb (length o) (42 * length es) h) written
 
-  pub catalogue-turned-back : Catalogue-says bs s l r o z → Catalogue-refused bs s l r o z
-  catalogue-turned-back says =
+  pub list-turned-back : List-says f Wanted figure l r o z → List-refused f Wanted figure l r o z
+  list-turned-back says =
       record {
-        early = early (refused .number) refl says;
-        there = λ fine. let m = mined fine says in (m .0, m .1);
+        early = early (f .number) refl says;
+        there = λ fine. let m = listed fine says in (m .0, m .1);
         short = λ fine es c h. short fine says es c h;
         enough = λ fine es c h. enough fine says es c h;
       }
+
+pub catalogue-turned-back : (bs : List ℕ) (s l : ℕ) (r : Catalogued) (o z : List ℕ) → Catalogue-says bs s l r o z → Catalogue-refused bs s l r o z
+catalogue-turned-back bs s l = list-turned-back (survey-refusal bs s l) (Often (survey bs) s) (support-in (survey bs)) l
+
+pub book-turned-back : (a b l : ℕ) (r : Catalogued) (o z : List ℕ) → Book-says a b l r o z → Book-refused a b l r o z
+book-turned-back a b l = list-turned-back (surveys.refusal (book-refusal a b l) 0) (Small a b) unsupported l

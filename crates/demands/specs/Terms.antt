@@ -1,5 +1,5 @@
 -- The terms of Demands.antt: the bytes that a call writes, what a refused call leaves, the map of demand 3, what decoding leaves,
--- support as a number of embeddings, and a catalogue that is whole. Assumes nothing: these are definitions.
+-- support as a number of embeddings, and a catalogue or a book that is whole. Assumes nothing: these are definitions.
 use mathlib.Core.Path.{_≡_}
 use mathlib.Core.Bool.{Bool, true, false, cond}
 use mathlib.Core.List.{List, [], _∷_, _++_}
@@ -14,10 +14,12 @@ use Rattle.graphs.specs.Map.{map-before}
 use Rattle.graphs.specs.Graph.{Section}
 use Rattle.graphs.specs.Embedding.{Embedding}
 use Rattle.graphs.specs.Isomorphisms.{Demand-map}
+use Rattle.graphs.specs.Survey as surveys
 use Rattle.graphs.specs.Survey.{survey, length-refusal, bytes-refusal, survey-refusal, count-true}
-use Rattle.codes.specs.Code.{Rec, recs-in, rec-before, before}
+use Rattle.codes.specs.Code.{Rec, recs-in, kinds-before, rec-before, before}
 use Rattle.codes.specs.SectionCode.{section-of, Section-code, Least-section}
-use Rattle.growth.specs.Catalogue.{Entry, entry, Catalogue, entry-bytes, all-bytes}
+use Rattle.growth.specs.Catalogue.{Entry, entry, List-of, Often, support-in, entry-bytes, all-bytes}
+use Rattle.books.specs.Book.{Small, unsupported, book-refusal}
 use Rattle.records.specs.declared.refusal.Refusal.the-variants.{OutputLength}
 use Rattle.code_checks.specs.declared.answer.Written.{Written}
 use Rattle.code_checks.specs.declared.answer.Written.the-variants as written
@@ -84,31 +86,44 @@ pub record Returned-as (number x count : ℕ) (out out-now : List ℕ) : Type 0 
   pub counted : returned-count x ≡ count
   pub no-drawing : returned-drawing x ≡ 0
 
--- OF A CATALOGUE: settings and survey come first, and are refused with the drawing at fault; then 15 exactly where the entries
--- of the survey's one catalogue do not fit, and every lent byte is zero
-pub record Catalogue-refused (bs : List ℕ) (s l : ℕ) (r : Catalogued) (out out-now : List ℕ) : Type 0 where
-  pub early :
-      0 < survey-refusal bs s l .number → (catalogued-refusal r ≡ survey-refusal bs s l) × (catalogued-count r ≡ 0) × (out-now ≡ out)
-  pub there : survey-refusal bs s l .number ≡ 0 → (es : List Entry) × Catalogue (survey bs) s l es
+-- OF A LIST of patterns, whichever are wanted: what the call is given comes first, and is refused with the drawing at fault; then 15 exactly
+-- where the entries of the one list that there is do not fit, and every lent byte is zero
+pub record List-refused (f : surveys.Refusal) (Wanted : Drawing → Type 0) (figure : Drawing → ℕ) (l : ℕ) (r : Catalogued)
+    (out out-now : List ℕ) : Type 0 where
+  pub early : 0 < f .number → (catalogued-refusal r ≡ f) × (catalogued-count r ≡ 0) × (out-now ≡ out)
+  pub there : f .number ≡ 0 → (es : List Entry) × List-of kinds-before Wanted figure l es
   pub short :
-      survey-refusal bs s l .number ≡ 0 → (es : List Entry) → Catalogue (survey bs) s l es → length out < 42 * length es
+      f .number ≡ 0 → (es : List Entry) → List-of kinds-before Wanted figure l es → length out < 42 * length es
       → (r ≡ Refused OutputLength 0) × (out-now ≡ replicate (length out) 0)
   pub enough :
-      survey-refusal bs s l .number ≡ 0 → (es : List Entry) → Catalogue (survey bs) s l es → 42 * length es ≤ length out
+      f .number ≡ 0 → (es : List Entry) → List-of kinds-before Wanted figure l es → 42 * length es ≤ length out
       → (r ≡ Entries (length es)) × (out-now ≡ in-front (all-bytes es) out)
 
 -- the same from C
-pub record Catalogue-returned (bs : List ℕ) (s l x : ℕ) (out out-now : List ℕ) : Type 0 where
+pub record List-returned (f : surveys.Refusal) (Wanted : Drawing → Type 0) (figure : Drawing → ℕ) (l x : ℕ) (out out-now : List ℕ) : Type 0 where
   pub early :
-      0 < survey-refusal bs s l .number
-      → (returned-refusal x ≡ survey-refusal bs s l .number) × (returned-drawing x ≡ survey-refusal bs s l .drawing)
-      × (returned-count x ≡ 0) × (out-now ≡ out)
+      0 < f .number
+      → (returned-refusal x ≡ f .number) × (returned-drawing x ≡ f .drawing) × (returned-count x ≡ 0) × (out-now ≡ out)
   pub short :
-      survey-refusal bs s l .number ≡ 0 → (es : List Entry) → Catalogue (survey bs) s l es → length out < 42 * length es
+      f .number ≡ 0 → (es : List Entry) → List-of kinds-before Wanted figure l es → length out < 42 * length es
       → (returned-refusal x ≡ 15) × (returned-drawing x ≡ 0) × (returned-count x ≡ 0) × (out-now ≡ replicate (length out) 0)
   pub enough :
-      survey-refusal bs s l .number ≡ 0 → (es : List Entry) → Catalogue (survey bs) s l es → 42 * length es ≤ length out
+      f .number ≡ 0 → (es : List Entry) → List-of kinds-before Wanted figure l es → 42 * length es ≤ length out
       → (returned-refusal x ≡ 0) × (returned-drawing x ≡ 0) × (returned-count x ≡ length es) × (out-now ≡ in-front (all-bytes es) out)
+
+-- of a catalogue: settings and survey; then the patterns that enough drawings contain, with their support
+abbrev pub Catalogue-refused : (bs : List ℕ) (s l : ℕ) → Catalogued → (out out-now : List ℕ) → Type 0
+Catalogue-refused bs s l = List-refused (survey-refusal bs s l) (Often (survey bs) s) (support-in (survey bs)) l
+
+abbrev pub Catalogue-returned : (bs : List ℕ) (s l x : ℕ) (out out-now : List ℕ) → Type 0
+Catalogue-returned bs s l = List-returned (survey-refusal bs s l) (Often (survey bs) s) (support-in (survey bs)) l
+
+-- of the book: 16 and 17, which name no drawing; then the patterns with small kinds, with support 0
+abbrev pub Book-refused : (a b l : ℕ) → Catalogued → (out out-now : List ℕ) → Type 0
+Book-refused a b l = List-refused (surveys.refusal (book-refusal a b l) 0) (Small a b) unsupported l
+
+abbrev pub Book-returned : (a b l x : ℕ) (out out-now : List ℕ) → Type 0
+Book-returned a b l = List-returned (surveys.refusal (book-refusal a b l) 0) (Small a b) unsupported l
 
 -- THE MAP OF DEMAND 3, sentence by sentence in `Demand-map`: there is one
 abbrev pub Mapped : (d e : Drawing) → Type 0
@@ -203,6 +218,30 @@ pub record Whole-catalogue (bs : List ℕ) (s l n : ℕ) (o z : List ℕ) : Type
   pub least :
       (p : Drawing) → Section p → (k : ℕ) → k < n → Entry-for p z k
       → Least-section p (entry-in k z .code) × Supported p (survey bs) (entry-in k z .support)
+  -- there is no entry that is one for no section
+  pub sound : (k : ℕ) → k < n → (p : Drawing) × Section p × Entry-for p z k
+  -- codes rise
+  pub rise : (j k : ℕ) → j < k → k < n → before (entry-in j z .code) (entry-in k z .code) ≡ true
+  -- the bytes are those of the entries, and what they were past the last one
+  pub bytes : (k : ℕ) → k < n → row 42 k z ≡ entry-bytes (entry-in k z)
+  pub room : 42 * n ≤ length z
+  pub size : length z ≡ length o
+  pub kept : drop (42 * n) z ≡ drop (42 * n) o
+
+-- A WHOLE BOOK of n entries in the lent bytes z, which were o before the call: patterns are taken up to a map, as in demand 3, since an entry is
+-- one for each pattern that its records are a code of
+pub record Whole-book (a b l n : ℕ) (o z : List ℕ) : Type 0 where
+  -- a section of 1 to l cables, its device kinds below a and its cable kinds below b, has an entry
+  pub there :
+      (p : Drawing) → Section p → 1 ≤ length (p .cables) → length (p .cables) ≤ l → Small a b p → (k : ℕ) × (k < n) × Entry-for p z k
+  -- and no other has
+  pub small :
+      (p : Drawing) → Section p → (k : ℕ) → k < n → Entry-for p z k → (1 ≤ length (p .cables)) × (length (p .cables) ≤ l) × Small a b p
+  -- no more than one
+  pub once : (p : Drawing) → Section p → (j k : ℕ) → j < n → k < n → Entry-for p z j → Entry-for p z k → j ≡ k
+  -- with its least code and support 0
+  pub least :
+      (p : Drawing) → Section p → (k : ℕ) → k < n → Entry-for p z k → Least-section p (entry-in k z .code) × (entry-in k z .support ≡ 0)
   -- there is no entry that is one for no section
   pub sound : (k : ℕ) → k < n → (p : Drawing) × Section p × Entry-for p z k
   -- codes rise

@@ -1,252 +1,74 @@
 -- A catalogue that is written to its end is whole, as the third demand asks: that follows from what the call says, and from nothing
--- else. Rests on least codes. Assumes nothing.
-use mathlib.Core.Path.{_≡_, refl, sym, ap, subst, _∙_}
-use mathlib.Core.Bool.{Bool, true, false}
-use mathlib.Core.List.{List, [], _∷_, map}
-use mathlib.Core.Logic.{_⊎_, inl, inr}
-use Prim.Native.Nat.{ℕ, zero, suc, _*_, _≤_, _<_}
-use native.Mathlib.Nat.{not-suc-le-zero, le-of-suc-le-suc}
+-- else. Rests on WholeLists. Assumes nothing.
+use mathlib.Core.Path.{_≡_, sym, subst}
+use mathlib.Core.List.{List}
+use Prim.Native.Nat.{ℕ, _≤_}
 use native.Mathlib.Omega.{arith}
-use lib.Dec.{ltb, eqb}
-use lib.ListN.{length, getD, drop, length-append, length-drop, length-map, List·getD-map}
-use lib.Seq.{drop-at}
-use borrow.Author.Tests.{ltb-true, ltb-false, eqb-true}
-use Rattle.laws.specs.Tests.{Three, less, same, more, compare-numbers, true-and-false}
-use Rattle.laws.specs.Lists.{Mem, mem-at, place}
-use Rattle.laws.specs.Rising.{Rises, rises-head, rises-tail}
-use Rattle.laws.specs.Rows.{row}
-use Rattle.graphs.specs.Drawing.{Drawing, is-pattern}
-use Rattle.graphs.specs.Map.{Same}
-use Rattle.graphs.specs.Survey as surveys
-use Rattle.graphs.specs.Survey.{survey, survey-refusal, support}
-use Rattle.graphs.specs.Graph.{Simple, Section, Pattern, lone-drawing}
-use Rattle.graphs.specs.Sections.{pattern-section, section-pattern, lone-or-pattern}
-use Rattle.graphs.specs.Patterns.{pattern-from-test, pattern-to-test}
-use Rattle.graphs.specs.Containment.{same-support}
-use Rattle.codes.specs.Code.{Rec, Code-of, Least, before, kinds-before}
-use Rattle.codes.specs.CodeOrder.{kinds-order, before-strict}
-use Rattle.codes.specs.FullCode.{coded-from-test, coded-length, least-unique}
-use Rattle.codes.specs.LeastCode.{least-code-there}
-use Rattle.codes.specs.CodesTell.{code-along, code-makes-same}
-use Rattle.codes.specs.ReadRows.{good-from-test}
-use Rattle.codes.specs.SectionCode.{lone-code, lone-row, Section-code}
-use Rattle.codes.specs.SectionCodes.{rows-not-lone, lone-code-row, lone-only, cabled-code, pattern-code, least-pattern}
-use Rattle.growth.specs.Catalogue.{Entry, entry, Frequent-entry, Catalogue, entry-bytes, all-bytes}
+use Rattle.graphs.specs.Survey.{survey, survey-refusal}
+use Rattle.graphs.specs.Sections.{section-pattern}
+use Rattle.codes.specs.Code.{kinds-before}
+use Rattle.codes.specs.SectionCodes.{least-pattern}
+use Rattle.growth.specs.Catalogue.{Often, support-in}
+use Rattle.growth.specs.Frequent.{often-closed, support-kept}
 use Rattle.growth.specs.Settings.{accepted-settings}
-use Rattle.records.specs.declared.refusal.Refusal.{Refusal}
-use Rattle.records.specs.declared.refusal.Refusal.the-variants.{OutputLength}
-use Rattle.records.specs.Refusals.{number-of, number-positive}
-use Rattle.laws.specs.Lent.{in-front}
-use Rattle.records.specs.declared.catalogued.Catalogued.{Catalogued}
-use Rattle.records.specs.declared.catalogued.Catalogued.the-variants.{Entries, Refused}
-use Rattle.records.specs.Catalogued.{catalogued-count, catalogued-refusal}
-use Rattle.mining.specs.CatalogueSays.{Entries-written, Catalogue-as, Catalogue-says}
-use Rattle.demands.specs.Terms.{entry-in, Entry-for, Supported, Whole-catalogue}
+use Rattle.records.specs.declared.catalogued.Catalogued.the-variants.{Entries}
+use Rattle.mining.specs.CatalogueSays.{Catalogue-says}
+use Rattle.demands.specs.Terms.{Supported, Whole-catalogue}
 use Rattle.demands.specs.Supports.{supported, supported-is}
-use Rattle.demands.specs.ReadEntries.{all-bytes-length, bytes-at, entry-at}
-
--- WHAT A FREQUENT ENTRY SAYS of any pattern that it is one for
-pub record Entry-says (ds : List Drawing) (s l : ℕ) (e : Entry) (p : Drawing) : Type 0 where
-  pub size : length (p .cables) ≤ l
-  pub frequent : s ≤ support p ds
-  pub least : Least p (e .code)
-  pub support-is : e .support ≡ support p ds
-
-pub entry-says :
-    (ds : List Drawing) (s l : ℕ) (e : Entry) → Frequent-entry kinds-before ds s l e → (p : Drawing) → is-pattern p ≡ true
-    → Code-of p (e .code) → Entry-says ds s l e p
-entry-says ds s l e f p k c =
-    record {
-      size = omega (arith, f .size, coded-length p simple (e .code) (coded-from-test p simple (e .code) c));
-      frequent = omega (arith, f .frequent, counts);
-      least = record { code = c; least = λ ss g. f .least .least ss (code-along p q simple plain ss alike g) };
-      support-is = counts;
-    }
-  where
-    q : Drawing
-    q = f .pattern
-
-    simple : Simple p
-    simple = pattern-from-test p k .simple
-
-    plain : Simple q
-    plain = pattern-from-test q (f .is-one) .simple
-
-    alike : Same p q
-    alike = code-makes-same p q simple plain (e .code) c (f .least .code)
-
-    counts : e .support ≡ support p ds
-    counts = sym (same-support p q (simple .ends) (plain .ends) alike ds ∙ f .support-is)
-
--- each element of a rising list comes before those further on
-rises-at :
-    {A : Type 0} (lt : A → A → Bool) (d : A) (xs : List A) → Rises lt xs → (j k : ℕ) → j < k → k < length xs
-    → lt (getD xs j d) (getD xs k d) ≡ true
-rises-at lt d [] r j k h g = absurd (not-suc-le-zero g)
-rises-at lt d (x ∷ xs) r j zero h g = absurd (not-suc-le-zero h)
-rises-at lt d (x ∷ xs) r zero (suc k) h g = rises-head lt x xs r (getD xs k d) (mem-at d xs k (le-of-suc-le-suc g))
-rises-at lt d (x ∷ xs) r (suc j) (suc k) h g = rises-at lt d xs (rises-tail lt x xs r) j k (le-of-suc-le-suc h) (le-of-suc-le-suc g)
-
--- entries are answered with number 0, a refusal with another
-entries-number : (n : ℕ) → catalogued-refusal (Entries n) .number ≡ 0
-unfolding surveys.refusal
-entries-number n = refl
-
-refused-number : (r : Refusal) (d : ℕ) → catalogued-refusal (Refused r d) .number ≡ number-of r
-unfolding surveys.refusal
-refused-number r d = refl
+use Rattle.demands.specs.WholeLists.{
+  list-accepted,
+  Finished,
+  finished,
+  whole-pattern,
+  whole-says,
+  whole-rise,
+  whole-there,
+  whole-once,
+  whole-sound,
+  whole-bytes,
+  whole-size,
+  whole-room,
+  whole-kept,
+}
 
 -- where entries are answered, settings and survey are accepted
 pub entries-accepted : (bs : List ℕ) (s l n : ℕ) (o z : List ℕ) → Catalogue-says bs s l (Entries n) o z → survey-refusal bs s l .number ≡ 0
-entries-accepted bs s l n o z says = go (survey-refusal bs s l .number) refl says
-  where
-    go :
-        (m : ℕ) → survey-refusal bs s l .number ≡ m → Catalogue-as m (survey-refusal bs s l) (survey bs) s l (Entries n) o z
-        → survey-refusal bs s l .number ≡ 0
-    go zero e c = e
-    go (suc m) e (r, w) = absurd (omega (arith, sym (entries-number n) ∙ ap (λ (f : surveys.Refusal). f .number) r ∙ e))
+entries-accepted bs s l n o z = list-accepted (Often (survey bs) s) (support-in (survey bs)) l (survey-refusal bs s l) n o z
 
--- A CATALOGUE THAT IS WRITTEN TO ITS END
-record Finished (bs : List ℕ) (s l n : ℕ) (o z : List ℕ) : Type 0 where
-  es : List Entry
-  catalogue : Catalogue (survey bs) s l es
-  limit : l ≤ 8
-  count : n ≡ length es
-  room : 42 * length es ≤ length o
-  output : z ≡ in-front (all-bytes es) o
-
-finished : (bs : List ℕ) (s l n : ℕ) (o z : List ℕ) → Catalogue-says bs s l (Entries n) o z → Finished bs s l n o z
-finished bs s l n o z says = go (survey-refusal bs s l .number) refl says
-  where
-    written :
-        (es : List Entry) (t : Bool) → ltb (length o) (42 * length es) ≡ t → Entries-written t es (Entries n) o z
-        → (n ≡ length es) × (42 * length es ≤ length o) × (z ≡ in-front (all-bytes es) o)
-    written es true e (r, w) =
-        absurd
-        (omega (
-          arith,
-          sym (entries-number n) ∙ ap (λ (c : Catalogued). catalogued-refusal c .number) r ∙ refused-number OutputLength 0,
-          number-positive OutputLength,
-        ))
-    written es false e (r, w) = (ap catalogued-count r, ltb-false (length o) (42 * length es) e, w)
-
-    go :
-        (m : ℕ) → survey-refusal bs s l .number ≡ m → Catalogue-as m (survey-refusal bs s l) (survey bs) s l (Entries n) o z
-        → Finished bs s l n o z
-    go zero e (es, c, w) =
-        let t = written es (ltb (length o) (42 * length es)) refl w in
-        record { es = es; catalogue = c; limit = accepted-settings bs s l e .limit-high; count = t .0; room = t .1; output = t .2 }
-    go (suc m) e (r, w) = absurd (omega (arith, sym (entries-number n) ∙ ap (λ (f : surveys.Refusal). f .number) r ∙ e))
-
-module _ (bs : List ℕ) (s l n : ℕ) (o z : List ℕ) (f : Finished bs s l n o z) where
-  abbrev none : Entry
-  none = entry 0 []
-
-  few : (e : Entry) → Mem e (f .es) → length (e .code) ≤ 8
-  few e m = omega (arith, f .catalogue .sound e m .size, f .limit)
-
-  -- the lent bytes past the entries
-  abbrev rest : List ℕ
-  rest = drop (length (all-bytes (f .es))) o
-
-  front : length (all-bytes (f .es)) ≡ 42 * n
-  front = all-bytes-length (f .es) few ∙ ap (λ (k : ℕ). 42 * k) (sym (f .count))
-
-  is-entry : (k : ℕ) → k < n → entry-in k z ≡ getD (f .es) k none
-  is-entry k h = ap (entry-in k) (f .output) ∙ entry-at (f .es) few rest none k (omega (arith, f .count))
-
-  entry-frequent : (k : ℕ) → k < n → Frequent-entry kinds-before (survey bs) s l (entry-in k z)
-  entry-frequent k h = f .catalogue .sound (entry-in k z) (rw (is-entry k h) (mem-at none (f .es) k (omega (arith, f .count))))
-
-  -- a section that an entry is one for has a cable
-  entry-pattern : (p : Drawing) → Section p → (k : ℕ) → k < n → Entry-for p z k → Pattern p
-  entry-pattern p i k h c = go (lone-or-pattern p i)
-    where
-      go : ((j : ℕ) × (p ≡ lone-drawing j)) ⊎ Pattern p → Pattern p
-      go (inr w) = w
-      go (inl (j, e)) =
-          let code = entry-in k z .code in
-          let is : code ≡ lone-code j = lone-only j code (subst (λ (d : Drawing). Section-code d code) e c) in
-          let good = good-from-test code (entry-frequent k h .least .code .good) .accepted in
-          absurd (true-and-false (ap lone-row is ∙ lone-code-row j) (rows-not-lone code good))
-
-  says-of : (p : Drawing) → Pattern p → (k : ℕ) → k < n → Entry-for p z k → Entry-says (survey bs) s l (entry-in k z) p
-  says-of p i k h c = entry-says (survey bs) s l (entry-in k z) (entry-frequent k h) p (pattern-to-test p i) (pattern-code i c)
-
-  rise : (j k : ℕ) → j < k → k < n → before (entry-in j z .code) (entry-in k z .code) ≡ true
-  rise j k h g =
-      rw (is-entry j (omega arith), is-entry k g, ← code-at j, ← code-at k)
-      (rises-at before [] codes (f .catalogue .rise) j k h (omega (arith, f .count, length-map (f .es) (λ (e : Entry). e .code))))
-    where
-      codes : List (List Rec)
-      codes = map (λ (e : Entry). e .code) (f .es)
-
-      code-at : (k : ℕ) → getD codes k [] ≡ getD (f .es) k none .code
-      code-at k = List·getD-map (λ (e : Entry). e .code) (f .es) k none
-
-  there : (p : Drawing) → Pattern p → length (p .cables) ≤ l → s ≤ support p (survey bs) → (k : ℕ) × (k < n) × Entry-for p z k
-  there p i h g =
-      let t = least-code-there kinds-before kinds-order p i in
-      let w = place none (f .catalogue .whole p (t .0) (pattern-to-test p i) h g (t .1)) in
-      let below : w .i < n = omega (arith, w .below, f .count) in
-      (w .i, below, rw (is-entry (w .i) below, w .is) (cabled-code (t .1 .code)))
-
-  once : (p : Drawing) → Pattern p → (j k : ℕ) → j < n → k < n → Entry-for p z j → Entry-for p z k → j ≡ k
-  once p i j k a b c d = go (compare-numbers j k)
-    where
-      same-code : entry-in j z .code ≡ entry-in k z .code
-      same-code =
-          least-unique kinds-before kinds-order p (entry-in j z .code) (entry-in k z .code) (says-of p i j a c .least) (says-of p i k b d .least)
-
-      apart : (j k : ℕ) → k < n → entry-in j z .code ≡ entry-in k z .code → j < k → ⊥
-      apart j k h e g = before-strict kinds-before kinds-order .irrefl (entry-in k z .code) (rw e at (rise j k g h))
-
-      go : Three (ltb j k ≡ true) (eqb j k ≡ true) (ltb k j ≡ true) → j ≡ k
-      go (less h) = absurd (apart j k b same-code (ltb-true j k h))
-      go (same h) = eqb-true j k h
-      go (more h) = absurd (apart k j a (sym same-code) (ltb-true k j h))
-
-  output-size : length z ≡ length o
-  output-size =
-      ap length (f .output)
-      ∙ omega (
-        arith,
-        length-append (all-bytes (f .es)) rest,
-        length-drop (length (all-bytes (f .es))) o,
-        front,
-        f .count,
-        f .room,
-      )
-
+module _ (bs : List ℕ) (s l n : ℕ) (o z : List ℕ) (high : l ≤ 8) (f : Finished (Often (survey bs) s) (support-in (survey bs)) l n o z) where
   -- in the words of the demand: a pattern as a graph, support as a number of embeddings
   demanded : Whole-catalogue bs s l n o z
   demanded =
       record {
         there = λ p i some h m q g.
-            let w = section-pattern i some in there p w h (omega (arith, supported-is p w (survey bs) m q));
+            let w = section-pattern i some in
+            whole-there (Often (survey bs) s) (support-in (survey bs)) l (often-closed (survey bs) s) (support-kept (survey bs)) high f p w h
+            (omega (arith, supported-is p w (survey bs) m q));
         frequent = λ p i k h c.
-            let w = entry-pattern p i k h c in
-            let t = says-of p w k h c in
-            (w .cables-low, t .size, omega (arith, t .frequent, t .support-is));
-        once = λ p i j k a b c d. once p (entry-pattern p i j a c) j k a b c d;
+            let w = whole-pattern (Often (survey bs) s) (support-in (survey bs)) l (often-closed (survey bs) s)
+            (support-kept (survey bs)) high f p i k h c in
+            let t = whole-says (Often (survey bs) s) (support-in (survey bs)) l (often-closed (survey bs) s)
+            (support-kept (survey bs)) high f p w k h c in
+            (w .cables-low, t .size, omega (arith, t .wanted, t .support-is));
+        once = whole-once (Often (survey bs) s) (support-in (survey bs)) l (often-closed (survey bs) s) (support-kept (survey bs)) high f;
         least = λ p i k h c.
-            let w = entry-pattern p i k h c in
-            let t = says-of p w k h c in (
+            let w = whole-pattern (Often (survey bs) s) (support-in (survey bs)) l (often-closed (survey bs) s)
+            (support-kept (survey bs)) high f p i k h c in
+            let t = whole-says (Often (survey bs) s) (support-in (survey bs)) l (often-closed (survey bs) s)
+            (support-kept (survey bs)) high f p w k h c in (
               least-pattern kinds-before w (t .least),
               subst (Supported p (survey bs)) (sym (t .support-is)) (supported p w (survey bs)),
             );
-        sound = λ k h.
-            let t = entry-frequent k h in
-            (t .pattern, pattern-section (pattern-from-test (t .pattern) (t .is-one)), cabled-code (t .least .code));
-        rise = rise;
-        bytes = λ k h. ap (row 42 k) (f .output) ∙ bytes-at (f .es) few rest none k (omega (arith, f .count)) ∙ ap entry-bytes (sym (is-entry k h));
-        room = omega (arith, f .count, f .room, output-size);
-        size = output-size;
-        kept =
-            ap (drop (42 * n)) (f .output) ∙ drop-at (all-bytes (f .es)) rest (42 * n) front
-            ∙ ap (λ (k : ℕ). drop k o) front;
+        sound = whole-sound (Often (survey bs) s) (support-in (survey bs)) l (often-closed (survey bs) s) (support-kept (survey bs)) high f;
+        rise = whole-rise (Often (survey bs) s) (support-in (survey bs)) l (often-closed (survey bs) s) (support-kept (survey bs)) high f;
+        bytes = whole-bytes (Often (survey bs) s) (support-in (survey bs)) l (often-closed (survey bs) s) (support-kept (survey bs)) high f;
+        room = whole-room (Often (survey bs) s) (support-in (survey bs)) l (often-closed (survey bs) s) (support-kept (survey bs)) high f;
+        size = whole-size (Often (survey bs) s) (support-in (survey bs)) l (often-closed (survey bs) s) (support-kept (survey bs)) high f;
+        kept = whole-kept (Often (survey bs) s) (support-in (survey bs)) l (often-closed (survey bs) s) (support-kept (survey bs)) high f;
       }
 
 -- ONE THEOREM: a catalogue that the call says to have n entries is whole
 pub whole-catalogue : (bs : List ℕ) (s l n : ℕ) (o z : List ℕ) → Catalogue-says bs s l (Entries n) o z → Whole-catalogue bs s l n o z
-whole-catalogue bs s l n o z says = demanded bs s l n o z (finished bs s l n o z says)
+whole-catalogue bs s l n o z says =
+    demanded bs s l n o z (accepted-settings bs s l (entries-accepted bs s l n o z says) .limit-high)
+    (finished (Often (survey bs) s) (support-in (survey bs)) l (survey-refusal bs s l) n o z says)

@@ -1,23 +1,14 @@
 -- A code that grows in place: what does not reach its records leaves them and its kinds as they were, and five stores behind them are
 -- one record more. Assumes nothing.
-use mathlib.Core.Path.{_≡_, refl, sym, ap, _∙_, subst}
-use mathlib.Core.List.{List, [], map}
-use Prim.Native.Nat.{ℕ, _+_, _*_, _≤_}
+use mathlib.Core.Path.{_≡_, refl, sym, _∙_, subst}
+use mathlib.Core.List.{List}
+use Prim.Native.Nat.{ℕ, _+_, _≤_}
 use native.Mathlib.Nat.{mul-le-mul-left}
 use native.Mathlib.Omega.{arith}
-use lib.ListN.{take}
-use lib.Seq.{take-take}
-use Rattle.laws.specs.Rows.{rows, rows-sized, concat-rows, concat-injective}
-use Rattle.codes.specs.Code.{Rec, fresh, rec-in, recs-in, read-rows}
-use Rattle.codes.specs.RecordPut.{Front-kept}
+use Rattle.laws.specs.Rows.{rows}
+use Rattle.codes.specs.Code.{Rec, fresh, recs-in, read-rows}
+use Rattle.codes.specs.CodeFronts.{front-shorter, front-then, front-records-kept}
 use Rattle.extending.specs.HeldCode.{Kinds-held, Code-sized, Code-held, Code-kept, Appended}
-
--- A FRONT THAT STAYS
-front-shorter : {k n : ℕ} {xs ys : List ℕ} → k ≤ n → Front-kept n xs ys → Front-kept k xs ys
-front-shorter {k} {n} {xs} {ys} h e = record { is = sym (take-take k n ys h) ∙ ap (take k) (e .is) ∙ take-take k n xs h }
-
-front-then : {k : ℕ} {xs ys zs : List ℕ} → Front-kept k xs ys → Front-kept k ys zs → Front-kept k xs zs
-front-then e f = record { is = f .is ∙ e .is }
 
 -- BOTH ARRAYS, one change after the other
 pub code-same : {m n : ℕ} {code kinds : List ℕ} → Code-sized code kinds → Code-kept m n code kinds code kinds
@@ -40,11 +31,7 @@ code-grown a p b = code-then (omega arith) (omega arith) a (code-then (omega ari
 -- THE CODE THAT STAYS, with its kinds
 module _ {m n : ℕ} {code kinds code₁ kinds₁ : List ℕ} (most : m ≤ 20) (s : Code-sized code kinds) (k : Code-kept m n code kinds code₁ kinds₁) where
   pub records-kept : recs-in m code₁ ≡ recs-in m code
-  unfolding recs-in
-  records-kept =
-      ap (map rec-in)
-      (concat-injective 5 (rows 5 m code₁) (rows 5 m code) (omega arith) (rows-sized 5 m code₁ (omega (arith, k .sized .long)))
-      (rows-sized 5 m code (omega (arith, s .long))) (concat-rows 5 m code₁ ∙ k .front .is ∙ sym (concat-rows 5 m code)))
+  records-kept = front-records-kept m (omega (arith, s .long)) (omega (arith, k .sized .long)) (k .front)
 
   pub kinds-held-on : Kinds-held (recs-in m code) kinds n → Kinds-held (recs-in m code) kinds₁ n
   kinds-held-on h = record { count = h .count; are = k .met .is ∙ h .are }
@@ -54,10 +41,6 @@ module _ {m n : ℕ} {code kinds code₁ kinds₁ : List ℕ} (most : m ≤ 20) 
       record { sized = k .sized; met = subst (λ (γ : List Rec). Kinds-held γ kinds₁ n) (sym records-kept) (kinds-held-on h) }
 
 -- NO RECORD YET
-pub no-records : (code : List ℕ) → recs-in 0 code ≡ []
-unfolding recs-in rows
-no-records code = refl
-
 pub nothing-held : {code kinds : List ℕ} → Code-sized code kinds → Code-held code kinds 0 0
 unfolding read-rows fresh recs-in rows
 nothing-held s = record { sized = s; met = record { count = refl; are = refl } }

@@ -2,13 +2,15 @@
 -- each. Rests on Growths and Walking. Assumes nothing.
 use mathlib.Core.Path.{_≡_, refl, sym, ap, _∙_, subst}
 use mathlib.Core.Bool.{Bool, true, false, cond}
-use mathlib.Core.List.{List, [], _∷_, _++_, map, append-nil, append-assoc}
+use mathlib.Core.List.{List, [], _∷_, _++_, map}
+use mathlib.Core.Logic.{_⊎_, inl, inr}
 use Prim.Native.Nat.{ℕ, zero, suc, _+_, _-_, _/_, _%_, _^_, _≤_, _<_}
 use native.Mathlib.Nat.{mod-lt}
 use native.Mathlib.Omega.{arith}
 use lib.Dec.{ltb}
 use lib.ListN.{length, getD}
-use Rattle.laws.specs.Lists.{Mem, snoc, snoc-length, mem-map, mem-front, mem-back, map-append, mem-eq}
+use Rattle.laws.specs.Lists.{Mem, snoc, snoc-length, mem-map, mem-front, mem-back, mem-cases, map-append, mem-eq}
+use Rattle.laws.specs.Selections.{mem-one}
 use Rattle.laws.specs.Rising.{Rises, rises-apart}
 use Rattle.graphs.specs.Drawing.{Drawing, is-pattern}
 use Rattle.graphs.specs.Survey.{count-true}
@@ -16,17 +18,20 @@ use Rattle.codes.specs.Code.{Rec, Reading, kinds-before, rec-before-by, recs-in
 use Rattle.codes.specs.CodeBytes.{recs-in-length}
 use Rattle.codes.specs.CodeOrder.{kinds-order}
 use Rattle.codes.specs.Greedy.{Greedy}
-use Rattle.growth.specs.Growth.{Listed-by, listed-none}
-use Rattle.growth.specs.Frequent.{Frequent}
+use Rattle.growth.specs.Catalogue.{Often, support-in}
+use Rattle.growth.specs.Growth.{Listed-by}
+use Rattle.growth.specs.Frequent.{Frequent, often-closed}
 use Rattle.growth.specs.Places.{Ranks, record-at, record-in-row, cell-number, candidate-of}
 use Rattle.growth.specs.CellLaws.{candidate-place, candidate-cell, cell-number-below}
 use Rattle.growth.specs.CountingExtensions.{All-sections}
 use Rattle.growth.specs.Counted.{Extending, rows-extending, first-extending, Candidate, candidate-at, candidate-pattern}
 use Rattle.growth.specs.ListedBy.{place-in, chosen-places, chosen-rise}
 use Rattle.growth.specs.Output.{Ahead}
-use Rattle.growth.specs.Walking.{Gives, passed, Ahead-of, ahead-walked, listed-next}
-use Rattle.growing.specs.declared.grow.Growth.{Growth}
-use Rattle.growing.specs.declared.grow.Growth.the-variants.{To, Full}
+use Rattle.growth.specs.Walking.{Gives, Ahead-of, ahead-fewer}
+use Rattle.growth.specs.Listings.{Lists, Lists-more}
+use Rattle.growth.specs.ListingLaws.{none-walked, walked-ahead, walked-more, walked-past}
+use Rattle.entries.specs.declared.output.Growth.{Growth}
+use Rattle.entries.specs.declared.output.Growth.the-variants.{To, Full}
 use Rattle.growing.specs.declared.grow.Settings.{Settings}
 use Rattle.walks.specs.LabelMarks.{drawings-of}
 use Rattle.walks.specs.PreparedLaws.{drawings-counted, prepared-few, prepared-sections}
@@ -36,13 +41,10 @@ use Rattle.extending.specs.HeldCode.{basis, Can-read, Code-held, Code-kept}
 use Rattle.extending.specs.HeldCodeLaws.{records-kept, held-kept}
 use Rattle.looking.specs.Looking.{May-come, Hopeless, Can-look-on, Looked-on}
 use Rattle.codes.specs.OwnNumbering.{Well-grown}
-use Rattle.growing.specs.PatternGrowth.{lists-same}
+use Rattle.entries.specs.ListOutcomes.{Outcome}
 use Rattle.growing.specs.GrowthOutcomes.{
   Candidate-held,
   Can-grow-pattern,
-  Lists,
-  Lists-more,
-  Outcome,
   Pattern-grown,
   Fit,
   candidates-in,
@@ -223,25 +225,15 @@ module _ {survey labels rank alphabet : List ℕ} {g : Settings} {γ : List Rec}
         rises-apart (rec-before-by kinds-before) (up-to k) (candidates-in kind γ alphabet (g .labels) (part k top list))
         (subst (Rises (rec-before-by kinds-before)) split rising) x next m own
 
-    -- AHEAD of it stands what was listed
-    module _ (cs : List (List Rec)) (b : Ahead-of kinds-before kinds-order (drawings-of survey) (g .threshold) (g .limit) cs γ
-        (candidates-in kind γ alphabet (g .labels) (part from top list))) where
-      ahead-so-far : Ahead-of kinds-before kinds-order (drawings-of survey) (g .threshold) (g .limit) cs γ
-          (candidates-in kind γ alphabet (g .labels) (part from k list))
-      ahead-so-far = record {
-        done = b .done;
-        earlier = λ e m. b .earlier e
-            (rw split (mem-front (candidates-in kind γ alphabet (g .labels) (part k top list)) m));
-      }
-
-      ahead : (more : List (List Rec))
-          → Listed-by kinds-before kinds-order (Frequent kinds-before (drawings-of survey) (g .threshold)) (g .limit) γ
-          (candidates-in kind γ alphabet (g .labels) (part from k list)) more
-          → Ahead kinds-before kinds-order (drawings-of survey) (g .threshold) (g .limit) (cs ++ more)
-          (snoc γ (record-at (basis kind γ) alphabet (g .labels) (q / (2 ^ 40))))
-      ahead more t =
-          ahead-walked kinds-before kinds-order ds (g .threshold) (g .limit) cs γ (up-to k) ahead-so-far more t next
-          (b .earlier next (rw split (mem-back (up-to k) own))) later
+    -- those so far and this one are among all
+    among : (x : Rec)
+        → Mem x (snoc (candidates-in kind γ alphabet (g .labels) (part from k list)) (record-at (basis kind γ) alphabet (g .labels) (q / (2 ^ 40))))
+        → Mem x (candidates-in kind γ alphabet (g .labels) (part from top list))
+    among x m = rw split (go (mem-cases (up-to k) m))
+      where
+        go : Mem x (up-to k) ⊎ Mem x (next ∷ []) → Mem x (up-to k ++ candidates-in kind γ alphabet (g .labels) (part k top list))
+        go (inl h) = mem-front (candidates-in kind γ alphabet (g .labels) (part k top list)) h
+        go (inr h) = mem-back (up-to k) (subst (λ (y : Rec). Mem y (candidates-in kind γ alphabet (g .labels) (part k top list))) (mem-one h) own)
 
     -- PASSED OVER, where its code would not be the least
     walk-passed :
@@ -262,23 +254,17 @@ module _ {survey labels rank alphabet : List ℕ} {g : Settings} {γ : List Rec}
         }
       where
         step : (cs : List (List Rec)) (old : List ℕ)
-            → Lists-more (drawings-of survey) (Listed-by kinds-before kinds-order
+            → Lists-more (support-in (drawings-of survey)) (Listed-by kinds-before kinds-order
             (Frequent kinds-before (drawings-of survey) (g .threshold)) (g .limit) γ
             (candidates-in kind γ alphabet (g .labels) (part from k list))) cs old out₁ written
-            → Lists-more (drawings-of survey) (Listed-by kinds-before kinds-order
+            → Lists-more (support-in (drawings-of survey)) (Listed-by kinds-before kinds-order
             (Frequent kinds-before (drawings-of survey) (g .threshold)) (g .limit) γ
             (candidates-in kind γ alphabet (g .labels) (part from (k + 1) list))) cs old out₁ written
         step cs old x =
-            record {
-              more = x .more;
-              which =
-                  subst (λ (es : List Rec). Listed-by kinds-before kinds-order Wanted (g .limit) γ es (x .more)) (sym up-next)
-                  (subst (Listed-by kinds-before kinds-order Wanted (g .limit) γ (snoc (up-to k) next)) (append-nil (x .more))
-                  (listed-next kinds-before kinds-order ds (g .threshold) (g .limit) γ (up-to k) next (x .more) [] later (x .which)
-                  (passed (λ f. bad (f .least)))));
-              lists = x .lists;
-              room = x .room;
-            }
+            subst (λ (es : List Rec). Lists-more (support-in ds) (Listed-by kinds-before kinds-order Wanted (g .limit) γ es) cs old out₁ written)
+            (sym up-next)
+            (walked-past (Often ds (g .threshold)) (support-in ds) (g .limit) (often-closed ds (g .threshold)) γ (up-to k) next later x
+            (λ f. bad (f .least)))
 
     -- AFTER IT
     module _ {δ : List Rec} (t : δ ≡ snoc γ (record-at (basis kind γ) alphabet (g .labels) (q / (2 ^ 40))))
@@ -287,17 +273,18 @@ module _ {survey labels rank alphabet : List ℕ} {g : Settings} {γ : List Rec}
         {cells₂ seen₂ list₂ out₂ : List ℕ} where
       outcome : {v : Growth} → Pattern-grown survey g δ cells₂ seen₂ list₁ top list₂ out₁ written v out₂
           → (cs : List (List Rec)) (old : List ℕ)
-          → Ahead-of kinds-before kinds-order (drawings-of survey) (g .threshold) (g .limit) cs γ
+          → Ahead-of kinds-before kinds-order (Often (drawings-of survey) (g .threshold)) (g .limit) cs γ
           (candidates-in kind γ alphabet (g .labels) (part from top list))
-          → (m : Lists-more (drawings-of survey) (Listed-by kinds-before kinds-order
+          → (m : Lists-more (support-in (drawings-of survey)) (Listed-by kinds-before kinds-order
           (Frequent kinds-before (drawings-of survey) (g .threshold)) (g .limit) γ
           (candidates-in kind γ alphabet (g .labels) (part from k list))) cs old out₁ written)
-          → Outcome (drawings-of survey) (g .threshold) (g .limit)
-          (Gives kinds-before kinds-order (drawings-of survey) (g .threshold) (g .limit) δ) (cs ++ m .more) old out₂ v
+          → Outcome (Often (drawings-of survey) (g .threshold)) (support-in (drawings-of survey)) (g .limit)
+          (Gives kinds-before kinds-order (Often (drawings-of survey) (g .threshold)) (g .limit) δ) (cs ++ m .more) old out₂ v
       outcome u cs old b m =
           u .told (cs ++ m .more) old
-          (subst (Ahead kinds-before kinds-order ds (g .threshold) (g .limit) (cs ++ m .more)) (sym t)
-          (ahead cs b (m .more) (m .which))) (m .lists)
+          (subst (Ahead kinds-before kinds-order (Often ds (g .threshold)) (g .limit) (cs ++ m .more)) (sym t)
+          (walked-ahead (Often ds (g .threshold)) (support-in ds) (g .limit) (often-closed ds (g .threshold)) γ (up-to k) next later m
+          (ahead-fewer kinds-before kinds-order (Often ds (g .threshold)) (g .limit) among b))) (m .lists)
 
       walk-full : Pattern-grown survey g δ cells₂ seen₂ list₁ top list₂ out₁ written Full out₂
           → Candidates-walked survey alphabet g kind γ cells₂ seen₂ list from top list₂ out count Full out₂
@@ -324,24 +311,20 @@ module _ {survey labels rank alphabet : List ℕ} {g : Settings} {γ : List Rec}
           }
         where
           step : (cs : List (List Rec)) (old : List ℕ)
-              → (x : Lists-more (drawings-of survey) (Listed-by kinds-before kinds-order
+              → (x : Lists-more (support-in (drawings-of survey)) (Listed-by kinds-before kinds-order
               (Frequent kinds-before (drawings-of survey) (g .threshold)) (g .limit) γ
               (candidates-in kind γ alphabet (g .labels) (part from k list))) cs old out₁ written)
-              → Lists-more (drawings-of survey) (Gives kinds-before kinds-order (drawings-of survey) (g .threshold) (g .limit)
+              → Lists-more (support-in (drawings-of survey)) (Gives kinds-before kinds-order (Often (drawings-of survey) (g .threshold)) (g .limit)
               δ) (cs ++ x .more) old out₂ m
-              → Lists-more (drawings-of survey) (Listed-by kinds-before kinds-order
+              → Lists-more (support-in (drawings-of survey)) (Listed-by kinds-before kinds-order
               (Frequent kinds-before (drawings-of survey) (g .threshold)) (g .limit) γ
               (candidates-in kind γ alphabet (g .labels) (part from (k + 1) list))) cs old out₂ m
           step cs old x y =
-              record {
-                more = x .more ++ y .more;
-                which =
-                    subst (λ (es : List Rec). Listed-by kinds-before kinds-order Wanted (g .limit) γ es (x .more ++ y .more)) (sym up-next)
-                    (listed-next kinds-before kinds-order ds (g .threshold) (g .limit) γ (up-to k) next (x .more) (y .more) later (x .which)
-                    (subst (λ (c : List Rec). Gives kinds-before kinds-order ds (g .threshold) (g .limit) c (y .more)) t (y .which)));
-                lists = subst (λ (c : List (List Rec)). Lists ds c old out₂ m) (append-assoc cs (x .more) (y .more)) (y .lists);
-                room = y .room;
-              }
+              subst (λ (es : List Rec). Lists-more (support-in ds) (Listed-by kinds-before kinds-order Wanted (g .limit) γ es) cs old out₂ m)
+              (sym up-next)
+              (walked-more (Often ds (g .threshold)) (support-in ds) (g .limit) (often-closed ds (g .threshold)) γ (up-to k) next later x
+              (subst (λ (c : List Rec). Lists-more (support-in ds) (Gives kinds-before kinds-order (Often ds (g .threshold)) (g .limit) c)
+              (cs ++ x .more) old out₂ m) t y))
 
   -- THE START AND THE END
   pub walk-starts : On-the-way survey alphabet g kind γ list from top out count from cells seen list out count
@@ -354,15 +337,9 @@ module _ {survey labels rank alphabet : List ℕ} {g : Settings} {γ : List Rec}
         size = refl;
         room = a .out-room;
         told = λ cs old b l.
-            record {
-              more = [];
-              which =
-                  subst (λ (qs : List ℕ). Listed-by kinds-before kinds-order Wanted (g .limit) γ
-                  (candidates-in kind γ alphabet (g .labels) qs) []) (sym (part-none from list))
-                  (listed-none kinds-before kinds-order Wanted (g .limit) γ);
-              lists = lists-same l;
-              room = a .out-room;
-            };
+            subst (λ (qs : List ℕ). Lists-more (support-in ds) (Listed-by kinds-before kinds-order Wanted (g .limit) γ
+            (candidates-in kind γ alphabet (g .labels) qs)) cs old out count) (sym (part-none from list))
+            (none-walked (Often ds (g .threshold)) (support-in ds) (g .limit) γ (a .out-room) l);
       }
 
   walk-ends : {cells₁ seen₁ list₁ out₁ : List ℕ} {k written : ℕ} → top ≤ k
@@ -376,7 +353,7 @@ module _ {survey labels rank alphabet : List ℕ} {g : Settings} {γ : List Rec}
         size = w .size;
         room = w .room;
         told = λ cs old b l.
-            subst (λ (i : ℕ). Lists-more ds (Listed-by kinds-before kinds-order Wanted (g .limit) γ (up-to i)) cs old out₁ written) z
+            subst (λ (i : ℕ). Lists-more (support-in ds) (Listed-by kinds-before kinds-order Wanted (g .limit) γ (up-to i)) cs old out₁ written) z
             (w .told cs old b l);
       }
 

@@ -1,28 +1,29 @@
 -- Growing a pattern and walking its next cables: what both ask and what they leave. Assumes nothing: these are definitions.
 use mathlib.Core.Path.{_≡_}
 use mathlib.Core.Bool.{Bool, true, false}
-use mathlib.Core.List.{List, [], _∷_, _++_, map}
-use Prim.Native.Nat.{ℕ, suc, _+_, _*_, _/_, _^_, _≤_, _<_}
-use lib.ListN.{length, drop}
+use mathlib.Core.List.{List, [], _∷_, map}
+use Prim.Native.Nat.{ℕ, suc, _*_, _≤_, _<_}
+use lib.ListN.{length}
 use Rattle.graphs.specs.Drawing.{Drawing, is-pattern}
 use Rattle.graphs.specs.Survey.{containing, support}
 use Rattle.codes.specs.Code.{Rec, fresh, rows-refusal, decoded, kinds-before}
 use Rattle.codes.specs.CodeOrder.{kinds-order}
 use Rattle.codes.specs.Greedy.{Greedy}
 use Rattle.codes.specs.OwnNumbering.{Well-grown}
-use Rattle.growth.specs.Catalogue.{all-bytes}
-use Rattle.growth.specs.Catalogues.{entry-for}
+use Rattle.growth.specs.Catalogue.{Often, support-in}
 use Rattle.growth.specs.Growth.{Listed-by}
 use Rattle.growth.specs.Frequent.{Frequent}
 use Rattle.growth.specs.Places.{place-of, cell-number}
 use Rattle.growth.specs.CountingExtensions.{Counting, First-of}
 use Rattle.growth.specs.Floors.{Grown-above}
 use Rattle.growth.specs.ListedBy.{Chosen-cells, place-in, records-at}
-use Rattle.growth.specs.Output.{Done, Ahead}
+use Rattle.growth.specs.Output.{Ahead}
+use Rattle.growth.specs.Listings.{Lists, Lists-more}
 use Rattle.growth.specs.Walking.{Gives, Ahead-of}
 use Rattle.growth.specs.Sizes.{places-size, candidates-size}
-use Rattle.growing.specs.declared.grow.Growth.{Growth}
-use Rattle.growing.specs.declared.grow.Growth.the-variants.{To, Full}
+use Rattle.entries.specs.ListOutcomes.{Outcome, Room-left}
+use Rattle.entries.specs.declared.output.Growth.{Growth}
+use Rattle.entries.specs.declared.output.Growth.the-variants.{To, Full}
 use Rattle.growing.specs.declared.grow.Settings.{Settings}
 use Rattle.walks.specs.LabelMarks.{drawings-of}
 use Rattle.walks.specs.Prepared.{Prepared}
@@ -61,37 +62,10 @@ pub record Can-grow-pattern (survey labels rank alphabet : List ℕ) (g : Settin
   pub at-hand : At-hand cells seen list base (length γ)
   pub out-room : 42 * count ≤ length out
 
--- WHAT IS WRITTEN: the codes listed so far, as entries at the front of the output
-pub record Lists (ds : List Drawing) (cs : List (List Rec)) (old out : List ℕ) (count : ℕ) : Type 0 where
-  pub count-is : count ≡ length cs
-  pub bytes : out ≡ all-bytes (map (entry-for ds) cs) ++ drop (42 * length cs) old
-
--- codes that are listed rightly and do not fit
-pub record Too-many (ds : List Drawing) (s l room : ℕ) : Type 0 where
-  pub codes : List (List Rec)
-  pub done : Done kinds-before kinds-order ds s l codes
-  pub long : room < 42 * length codes
-
--- more codes, of which P tells, are listed behind cs
-pub record Lists-more (ds : List Drawing) (P : List (List Rec) → Type 0) (cs : List (List Rec)) (old out : List ℕ) (count : ℕ) : Type 0 where
-  pub more : List (List Rec)
-  pub which : P more
-  pub lists : Lists ds (cs ++ more) old out count
-  pub room : 42 * count ≤ length out
-
-abbrev pub Outcome : (ds : List Drawing) (s l : ℕ) (P : List (List Rec) → Type 0) (cs : List (List Rec)) (old out : List ℕ) → Growth → Type 0
-Outcome ds s l P cs old out (To k) = Lists-more ds P cs old out k
-Outcome ds s l P cs old out Full = Too-many ds s l (length out)
-
 -- so many entries, unless one does not fit
 abbrev pub growth-of : (full : Bool) (count : ℕ) → Growth
 growth-of true count = Full
 growth-of false count = To count
-
--- what stands in the output fits
-abbrev pub Room-left : (out : List ℕ) → Growth → Type 0
-Room-left out (To k) = 42 * k ≤ length out
-Room-left out Full = 0 ≤ length out
 
 -- AFTER GROWING
 pub record Pattern-grown (survey : List ℕ) (g : Settings) (γ : List Rec) (cells seen list : List ℕ) (base : ℕ) (list-now out : List ℕ)
@@ -102,9 +76,10 @@ pub record Pattern-grown (survey : List ℕ) (g : Settings) (γ : List Rec) (cel
   pub size : length out-now ≡ length out
   pub room : Room-left out-now r
   pub told :
-      (cs : List (List Rec)) (old : List ℕ) → Ahead kinds-before kinds-order (drawings-of survey) (g .threshold) (g .limit) cs γ
-      → Lists (drawings-of survey) cs old out count
-      → Outcome (drawings-of survey) (g .threshold) (g .limit) (Gives kinds-before kinds-order (drawings-of survey) (g .threshold)
+      (cs : List (List Rec)) (old : List ℕ) → Ahead kinds-before kinds-order (Often (drawings-of survey) (g .threshold)) (g .limit) cs γ
+      → Lists (support-in (drawings-of survey)) cs old out count
+      → Outcome (Often (drawings-of survey) (g .threshold)) (support-in (drawings-of survey)) (g .limit)
+      (Gives kinds-before kinds-order (Often (drawings-of survey) (g .threshold))
       (g .limit) γ) cs old
       out-now r
 
@@ -143,10 +118,10 @@ pub record Candidates-walked (survey alphabet : List ℕ) (g : Settings) (kind :
   pub room : Room-left out-now r
   pub told :
       (cs : List (List Rec)) (old : List ℕ)
-      → Ahead-of kinds-before kinds-order (drawings-of survey) (g .threshold) (g .limit) cs γ
+      → Ahead-of kinds-before kinds-order (Often (drawings-of survey) (g .threshold)) (g .limit) cs γ
       (candidates-in kind γ alphabet (g .labels) (part from top list))
-      → Lists (drawings-of survey) cs old out count
-      → Outcome (drawings-of survey) (g .threshold) (g .limit)
+      → Lists (support-in (drawings-of survey)) cs old out count
+      → Outcome (Often (drawings-of survey) (g .threshold)) (support-in (drawings-of survey)) (g .limit)
       (Listed-by kinds-before kinds-order (Frequent kinds-before (drawings-of survey) (g .threshold)) (g .limit) γ
       (candidates-in kind γ alphabet (g .labels) (part from top list)))
       cs old out-now r
@@ -162,10 +137,10 @@ pub record On-the-way (survey alphabet : List ℕ) (g : Settings) (kind : ℕ) (
   pub room : 42 * written ≤ length out-now
   pub told :
       (cs : List (List Rec)) (old : List ℕ)
-      → Ahead-of kinds-before kinds-order (drawings-of survey) (g .threshold) (g .limit) cs γ
+      → Ahead-of kinds-before kinds-order (Often (drawings-of survey) (g .threshold)) (g .limit) cs γ
       (candidates-in kind γ alphabet (g .labels) (part from top list))
-      → Lists (drawings-of survey) cs old out count
-      → Lists-more (drawings-of survey)
+      → Lists (support-in (drawings-of survey)) cs old out count
+      → Lists-more (support-in (drawings-of survey))
       (Listed-by kinds-before kinds-order (Frequent kinds-before (drawings-of survey) (g .threshold)) (g .limit) γ
       (candidates-in kind γ alphabet (g .labels) (part from k list)))
       cs old out-now written

@@ -2,14 +2,12 @@
 -- limit, or its next cables were walked. Rests on Growths and Walking. Assumes nothing.
 use mathlib.Core.Path.{_≡_, refl, sym, ap, _∙_, subst}
 use mathlib.Core.Bool.{Bool, true}
-use mathlib.Core.List.{List, [], _∷_, _++_, map, append-nil, append-assoc}
+use mathlib.Core.List.{List, [], _∷_, map}
 use Prim.Native.Nat.{ℕ, _+_, _*_, _/_, _^_, _≤_, _<_}
 use native.Mathlib.Omega.{arith}
 use borrow.Author.Tests.{eqb-true}
-use lib.ListN.{length, drop, length-map}
-use lib.Seq.{drop-drop}
-use Rattle.laws.specs.Lists.{Mem, snoc, snoc-length, map-append}
-use Rattle.laws.specs.Selections.{Sent, map-from}
+use lib.ListN.{length, length-map}
+use Rattle.laws.specs.Lists.{Mem, snoc}
 use Rattle.graphs.specs.Drawing.{Drawing}
 use Rattle.graphs.specs.Map.{contains}
 use Rattle.graphs.specs.Patterns.{pattern-from-test}
@@ -18,9 +16,9 @@ use Rattle.codes.specs.Code.{Rec, recs-in, decoded, kinds-before, Least}
 use Rattle.codes.specs.CodeBytes.{recs-in-length}
 use Rattle.codes.specs.CodeOrder.{kinds-order}
 use Rattle.codes.specs.LeastCode.{least-greedy}
-use Rattle.growth.specs.Catalogue.{Entry, entry, entry-bytes, all-bytes}
-use Rattle.growth.specs.Catalogues.{entry-for}
-use Rattle.growth.specs.Growth.{Listed, Listed-by, listed-leaf}
+use Rattle.growth.specs.Catalogue.{entry, entry-bytes, Often, support-in}
+use Rattle.growth.specs.Family.{Listable, entry-for}
+use Rattle.growth.specs.Growth.{Listed, Listed-by}
 use Rattle.growth.specs.Frequent.{Frequent}
 use Rattle.growth.specs.Places.{place-of}
 use Rattle.growth.specs.CellLaws.{cell-count-is, count-true-bound}
@@ -28,10 +26,13 @@ use Rattle.growth.specs.CountingExtensions.{All-sections, Counting}
 use Rattle.codes.specs.ReadRows.{good-from-test}
 use Rattle.growth.specs.Floors.{Floors-of, Above, Grown-above}
 use Rattle.growth.specs.ListedBy.{Chosen-places, place-in, chosen-places, chosen-listed}
-use Rattle.growth.specs.Output.{Done, Ahead, done-snoc, ahead-child}
-use Rattle.growth.specs.Walking.{Gives, passed, taken, Ahead-of, ahead-of-child}
-use Rattle.growing.specs.declared.grow.Growth.{Growth}
-use Rattle.growing.specs.declared.grow.Growth.the-variants.{To, Full}
+use Rattle.growth.specs.Output.{Done, Ahead}
+use Rattle.growth.specs.Walking.{Gives, Ahead-of}
+use Rattle.growth.specs.Listings.{Lists}
+use Rattle.growth.specs.ListingLaws.{lists-next, gives-nothing, listed-too-many, listed-ahead, gives-listed, gives-leaf}
+use Rattle.entries.specs.ListOutcomes.{Outcome}
+use Rattle.entries.specs.declared.output.Growth.{Growth}
+use Rattle.entries.specs.declared.output.Growth.the-variants.{To, Full}
 use Rattle.growing.specs.declared.grow.Settings.{Settings}
 use Rattle.taking.specs.declared.take.Taken.{Taken}
 use Rattle.taking.specs.declared.take.Taken.the-variants as answers
@@ -39,7 +40,7 @@ use Rattle.taking.specs.declared.take.Taken.the-variants.{Passed, Written}
 use Rattle.walks.specs.LabelMarks.{drawings-of}
 use Rattle.laws.specs.PutRecords.{put-record}
 use Rattle.laws.specs.PutRecordLaws.{put-length}
-use Rattle.growth.specs.EntryLaws.{entry-size, entry-behind}
+use Rattle.growth.specs.EntryLaws.{entry-size}
 use Rattle.walks.specs.FloorLaws.{least-above}
 use Rattle.walks.specs.PreparedLaws.{drawings-counted, prepared-few, prepared-sections}
 use Rattle.walks.specs.Counts.{Can-count}
@@ -51,41 +52,12 @@ use Rattle.taking.specs.Taking.{Can-take-candidate, Entry-put, Candidate-taken,
 use Rattle.growing.specs.GrowthOutcomes.{
   growth-of,
   Can-grow-pattern,
-  Lists,
-  Outcome,
   Pattern-grown,
   Fit,
   candidates-in,
   Can-walk-candidates,
   Candidates-walked,
 }
-
--- AN ENTRY MORE behind those that are listed
-pub lists-next :
-    (ds : List Drawing) (cs : List (List Rec)) (γ : List Rec) (old out now : List ℕ) (count : ℕ) → ((c : List Rec) → Mem c cs → length c ≤ 8)
-    → Lists ds cs old out count → now ≡ put-record 42 count (entry-bytes (entry-for ds γ)) out → Lists ds (snoc cs γ) old now (count + 1)
-lists-next ds cs γ old out now count small t is =
-    record {
-      count-is = omega (arith, t .count-is, snoc-length cs γ);
-      bytes =
-          is ∙ ap (λ (k : ℕ). put-record 42 k (entry-bytes (entry-for ds γ)) out) (t .count-is ∙ sym (length-map cs (entry-for ds)))
-          ∙ entry-behind (map (entry-for ds) cs) (entry-for ds γ) out (drop (42 * length cs) old)
-          (λ f m. fits f (map-from (entry-for ds) cs m)) (t .bytes)
-          ∙ ap (λ (es : List Entry). all-bytes es ++ drop 42 (drop (42 * length cs) old)) (sym (map-append (entry-for ds) cs (γ ∷ [])))
-          ∙ ap (λ (xs : List ℕ). all-bytes (map (entry-for ds) (snoc cs γ)) ++ xs)
-          (drop-drop 42 (42 * length cs) old ∙ ap (λ (k : ℕ). drop k old) longer);
-    }
-  where
-    longer : 42 * length cs + 42 ≡ 42 * length (snoc cs γ)
-    longer = omega (arith, snoc-length cs γ)
-
-    fits : (f : Entry) → Sent (entry-for ds) cs f → length (f .code) ≤ 8
-    fits f s = subst (λ (g : Entry). length (g .code) ≤ 8) (s .is) (small (s .a) (s .member))
-
--- the same list, of no records more
-pub lists-same : {ds : List Drawing} {cs : List (List Rec)} {old out : List ℕ} {count : ℕ} → Lists ds cs old out count → Lists ds
-    (cs ++ []) old out count
-lists-same {ds} {cs} {old} {out} {count} t = subst (λ (xs : List (List Rec)). Lists ds xs old out count) (sym (append-nil cs)) t
 
 -- WHAT IS COUNTED after a code of some records is what extends it above some floors
 pub fit-grown :
@@ -94,11 +66,11 @@ pub fit-grown :
 fit-grown k floors [] h c = absurd (omega arith)
 fit-grown k floors (r ∷ rs) h c = c
 
--- what is frequent is above the floors of the code
-frequent-above :
-    {ds : List Drawing} {s : ℕ} (γ : List Rec) (floors : List ℕ) → Floors-of γ floors → (e : Rec) → Frequent kinds-before ds s (snoc γ e)
+-- what is listed is above the floors of the code
+listed-above :
+    {Wanted : Drawing → Type 0} (γ : List Rec) (floors : List ℕ) → Floors-of γ floors → (e : Rec) → Listable kinds-before Wanted (snoc γ e)
     → Above floors e
-frequent-above γ floors laid e f =
+listed-above γ floors laid e f =
     least-above γ e floors laid (good-from-test (snoc γ e) (f .least .code .good) .accepted) (pattern-from-test (decoded (snoc γ e)) (f .drawn))
     (f .least)
 
@@ -112,7 +84,7 @@ pub candidates-listed :
     → Listed kinds-before kinds-order (Frequent kinds-before ds s) l γ cs
 candidates-listed qs sections o k floors [] some few laid c one h l cs t = absurd (omega arith)
 candidates-listed qs sections o k floors (r ∷ rs) some few laid c one h l cs t =
-    chosen-listed sections o r rs few floors c (frequent-above (r ∷ rs) floors laid) one h l cs t
+    chosen-listed sections o r rs few floors c (listed-above (r ∷ rs) floors laid) one h l cs t
 
 module _ {survey labels rank alphabet : List ℕ} {g : Settings} {γ : List Rec} {cell : ℕ} {cells seen list : List ℕ} {base : ℕ} {out : List ℕ}
     {count : ℕ} (a : Can-grow-pattern survey labels rank alphabet g γ cell cells seen list base out count) where
@@ -135,7 +107,7 @@ module _ {survey labels rank alphabet : List ℕ} {g : Settings} {γ : List Rec}
   support-few = omega (arith, counted, count-true-bound (containing (decoded γ) ds), containing-few)
 
   frequent : Least (decoded γ) γ → Frequent kinds-before (drawings-of survey) (g .threshold) γ
-  frequent l = record { drawn = a .candidate .drawn; least = l; often = a .candidate .often }
+  frequent l = record { drawn = a .candidate .drawn; least = l; wanted = a .candidate .often }
 
   same-list : List-kept base list list
   same-list = record { size = a .at-hand .list-size; below = λ k l. refl }
@@ -150,12 +122,8 @@ module _ {survey labels rank alphabet : List ℕ} {g : Settings} {γ : List Rec}
         size = ap length e;
         room = omega (arith, a .out-room, ap length e);
         told = λ cs old p t.
-            record {
-              more = [];
-              which = passed (λ f. bad (f .least));
-              lists = subst (λ (y : List ℕ). Lists ds (cs ++ []) old y count) (sym e) (lists-same t);
-              room = omega (arith, a .out-room, ap length e);
-            };
+            gives-nothing (Often ds (g .threshold)) (support-in ds) (g .limit) (λ f. bad (f .least)) (omega (arith, a .out-room, ap length e))
+            (subst (λ (y : List ℕ). Lists (support-in ds) cs old y count) (sym e) t);
       }
 
   -- NO ROOM
@@ -168,31 +136,28 @@ module _ {survey labels rank alphabet : List ℕ} {g : Settings} {γ : List Rec}
         kept = same-list;
         size = ap length e;
         room = omega arith;
-        told = λ cs old p t.
-            record {
-              codes = snoc cs γ;
-              done = done-snoc kinds-before kinds-order ds (g .threshold) (g .limit) cs γ p (frequent l) (a .most);
-              long = omega (arith, snoc-length cs γ, t .count-is, ap length e);
-            };
+        told = λ cs old p t. listed-too-many (Often ds (g .threshold)) (support-in ds) (g .limit) (frequent l) (a .most) p t
+            (omega (arith, ap length e));
       }
 
   -- WRITTEN
   module _ {mid : List ℕ} (p : Entry-put γ cell count out mid) where
-    own : mid ≡ put-record 42 count (entry-bytes (entry-for (drawings-of survey) γ)) out
+    own : mid ≡ put-record 42 count (entry-bytes (entry-for (support-in (drawings-of survey)) γ)) out
     own = p .is ∙ ap (λ (k : ℕ). put-record 42 count (entry-bytes (entry k γ)) out) counted
 
     mid-size : length mid ≡ length out
     mid-size =
         ap length own
-        ∙ put-length 42 count (entry-bytes (entry-for ds γ)) out (entry-size (entry-for ds γ) (omega (arith, a .most, a .set-up .small))) (p .room)
+        ∙ put-length 42 count (entry-bytes (entry-for (support-in ds) γ)) out
+        (entry-size (entry-for (support-in ds) γ) (omega (arith, a .most, a .set-up .small))) (p .room)
 
-    low : (cs : List (List Rec)) → Done kinds-before kinds-order (drawings-of survey) (g .threshold) (g .limit) cs → (c : List Rec)
+    low : (cs : List (List Rec)) → Done kinds-before kinds-order (Often (drawings-of survey) (g .threshold)) (g .limit) cs → (c : List Rec)
         → Mem c cs → length c ≤ 8
     low cs d c m = omega (arith, d .right c m .1, a .set-up .small)
 
-    listed : (cs : List (List Rec)) (old : List ℕ) → Ahead kinds-before kinds-order (drawings-of survey) (g .threshold) (g .limit) cs γ
-        → Lists (drawings-of survey) cs old out count → Lists (drawings-of survey) (snoc cs γ) old mid (count + 1)
-    listed cs old e t = lists-next ds cs γ old out mid count (low cs (e .done)) t own
+    listed : (cs : List (List Rec)) (old : List ℕ) → Ahead kinds-before kinds-order (Often (drawings-of survey) (g .threshold)) (g .limit) cs γ
+        → Lists (support-in (drawings-of survey)) cs old out count → Lists (support-in (drawings-of survey)) (snoc cs γ) old mid (count + 1)
+    listed cs old e t = lists-next (support-in ds) cs γ old out mid count (low cs (e .done)) t own
 
     mid-room : 42 * (count + 1) ≤ length mid
     mid-room = omega (arith, mid-size, p .room)
@@ -206,13 +171,8 @@ module _ {survey labels rank alphabet : List ℕ} {g : Settings} {γ : List Rec}
           size = mid-size;
           room = mid-room;
           told = λ cs old q t.
-              record {
-                more = γ ∷ [];
-                which = taken (frequent (p .least)) (a .most) (listed-leaf kinds-before kinds-order (Frequent kinds-before ds (g .threshold))
-                    (g .limit) γ (omega arith));
-                lists = listed cs old q t;
-                room = mid-room;
-              };
+              gives-leaf (Often ds (g .threshold)) (support-in ds) (g .limit) (frequent (p .least)) (a .most) q (omega arith) mid-room
+              (listed cs old q t);
         }
 
   -- SMALLER: its next cables are chosen and walked
@@ -261,17 +221,14 @@ module _ {survey labels rank alphabet : List ℕ} {g : Settings} {γ : List Rec}
             size = w .size ∙ mid-size (o .put);
             room = w .room;
             told = λ cs old q u.
-                go cs old r (w .told (snoc cs γ) old (ahead cs q)
-                (subst (λ (k : ℕ). Lists ds (snoc cs γ) old mid k) (sym (o .one-more)) (listed (o .put) cs old q u)));
+                go cs old q r (w .told (snoc cs γ) old (ahead cs q)
+                (subst (λ (k : ℕ). Lists (support-in ds) (snoc cs γ) old mid k) (sym (o .one-more)) (listed (o .put) cs old q u)));
           }
         where
-          ahead : (cs : List (List Rec)) → Ahead kinds-before kinds-order (drawings-of survey) (g .threshold) (g .limit) cs γ
-              → Ahead-of kinds-before kinds-order (drawings-of survey) (g .threshold) (g .limit) (snoc cs γ) γ
+          ahead : (cs : List (List Rec)) → Ahead kinds-before kinds-order (Often (drawings-of survey) (g .threshold)) (g .limit) cs γ
+              → Ahead-of kinds-before kinds-order (Often (drawings-of survey) (g .threshold)) (g .limit) (snoc cs γ) γ
               (candidates-in 0 γ alphabet (g .labels) (part base top list₂))
-          ahead cs q =
-              ahead-of-child kinds-before kinds-order ds (g .threshold) (g .limit) cs γ _
-              (done-snoc kinds-before kinds-order ds (g .threshold) (g .limit) cs γ q (frequent (o .put .least)) (a .most))
-              (λ e. ahead-child kinds-before kinds-order ds (g .threshold) (g .limit) cs γ e q (frequent (o .put .least)) (a .most))
+          ahead cs q = listed-ahead (Often ds (g .threshold)) (support-in ds) (g .limit) (frequent (o .put .least)) (a .most) q _
 
           all : (more : List (List Rec))
               → Listed-by kinds-before kinds-order (Frequent kinds-before (drawings-of survey) (g .threshold)) (g .limit) γ
@@ -283,20 +240,17 @@ module _ {survey labels rank alphabet : List ℕ} {g : Settings} {γ : List Rec}
               (fit-grown 0 (c .floors) γ (a .some) (c .counting)) (a .set-up .one)
               (chosen-places (c .sets) (g .threshold) (g .labels) (part base top list₂) sets-few (c .chosen)) (g .limit) more
 
-          go : (cs : List (List Rec)) (old : List ℕ) (r : Growth)
-              → Outcome (drawings-of survey) (g .threshold) (g .limit)
+          go : (cs : List (List Rec)) (old : List ℕ) → Ahead kinds-before kinds-order (Often (drawings-of survey) (g .threshold)) (g .limit) cs γ
+              → (r : Growth)
+              → Outcome (Often (drawings-of survey) (g .threshold)) (support-in (drawings-of survey)) (g .limit)
               (Listed-by kinds-before kinds-order (Frequent kinds-before (drawings-of survey) (g .threshold)) (g .limit) γ
               (candidates-in 0 γ alphabet (g .labels) (part base top list₂))) (snoc cs γ) old z r
-              → Outcome (drawings-of survey) (g .threshold) (g .limit)
-              (Gives kinds-before kinds-order (drawings-of survey) (g .threshold) (g .limit) γ) cs old z r
-          go cs old (To k) m =
-              record {
-                more = γ ∷ m .more;
-                which = taken (frequent (o .put .least)) (a .most) (all (m .more) (m .which));
-                lists = subst (λ (xs : List (List Rec)). Lists ds xs old z k) (append-assoc cs (γ ∷ []) (m .more)) (m .lists);
-                room = m .room;
-              }
-          go cs old Full m = m
+              → Outcome (Often (drawings-of survey) (g .threshold)) (support-in (drawings-of survey)) (g .limit)
+              (Gives kinds-before kinds-order (Often (drawings-of survey) (g .threshold)) (g .limit) γ) cs old z r
+          go cs old q (To k) m =
+              gives-listed (Often ds (g .threshold)) (support-in ds) (g .limit) (frequent (o .put .least)) (a .most) q
+              (record { more = m .more; which = all (m .more) (m .which); lists = m .lists; room = m .room })
+          go cs old q Full m = m
 
   -- THAT WAS ALL: passed over, without room, or as large as the limit
   module _ {over full : Bool} {more : ℕ} {z : List ℕ} (t : Taken-on γ cell (g .limit) count out over full more z) where

@@ -3,6 +3,7 @@
 use candidates::choose::CANDIDATES;
 use choosing::next::choose_next;
 use embeddings::rows::KEPT;
+use entries::output::Growth;
 use label_ranks::ranks::ALPHABET;
 use label_ranks::ranks::LABELS;
 use listing::level::ENDS;
@@ -28,12 +29,6 @@ pub struct Settings {
     pub labels: usize,
     pub threshold: usize,
     pub limit: usize,
-}
-
-// How many entries stand in the output, or that the next one does not fit.
-pub enum Growth {
-    To(usize),
-    Full,
 }
 
 // What stands in the output after a pattern of which that was all.

@@ -1,5 +1,5 @@
--- Catalogues: the frequent patterns of a survey, each with its least code and its support, over any order of the labels.
--- Assumes nothing: these are definitions.
+-- Lists of patterns, each with its least code and a figure, over any order of the labels; catalogues, the frequent patterns of a
+-- survey with their supports, are such lists. Assumes nothing: these are definitions.
 use mathlib.Core.Path.{_≡_}
 use mathlib.Core.Bool.{Bool, true}
 use mathlib.Core.List.{List, [], _∷_, _++_, map}
@@ -18,22 +18,36 @@ pub record Entry : Type 0 where
 abbrev pub entry : (support : ℕ) → (code : List Rec) → Entry
 entry n rs = record { support = n; code = rs }
 
--- what an entry says: a frequent pattern of at most l cables, its least code and its support
-pub record Frequent-entry (labels : Rec → Rec → Bool) (ds : List Drawing) (s l : ℕ) (e : Entry) : Type 0 where
+-- WHAT AN ENTRY SAYS, of a family of patterns (those that are wanted) with a figure for each: a wanted pattern of at most l cables,
+-- its least code and its figure
+pub record Entry-of (labels : Rec → Rec → Bool) (Wanted : Drawing → Type 0) (figure : Drawing → ℕ) (l : ℕ) (e : Entry) : Type 0 where
   pub pattern : Drawing
   pub is-one : is-pattern pattern ≡ true
   pub least : Least-by labels pattern (e .code)
   pub size : length (e .code) ≤ l
-  pub support-is : support pattern ds ≡ e .support
-  pub frequent : s ≤ e .support
+  pub support-is : figure pattern ≡ e .support
+  pub wanted : Wanted pattern
 
--- A CATALOGUE: codes rise; each entry is a frequent pattern's; each frequent pattern has one
-pub record Catalogue-by (labels : Rec → Rec → Bool) (ds : List Drawing) (s l : ℕ) (es : List Entry) : Type 0 where
+-- THE LIST OF A FAMILY: codes rise; each entry is a wanted pattern's; each wanted pattern has one
+pub record List-of (labels : Rec → Rec → Bool) (Wanted : Drawing → Type 0) (figure : Drawing → ℕ) (l : ℕ) (es : List Entry) : Type 0 where
   pub rise : Rises (before-by labels) (map (λ e. e .code) es)
-  pub sound : (e : Entry) → Mem e es → Frequent-entry labels ds s l e
+  pub sound : (e : Entry) → Mem e es → Entry-of labels Wanted figure l e
   pub whole :
-      (p : Drawing) (rs : List Rec) → is-pattern p ≡ true → length (p .cables) ≤ l → s ≤ support p ds → Least-by labels p rs
-      → Mem (entry (support p ds) rs) es
+      (p : Drawing) (rs : List Rec) → is-pattern p ≡ true → length (p .cables) ≤ l → Wanted p → Least-by labels p rs
+      → Mem (entry (figure p) rs) es
+
+-- A CATALOGUE: the patterns that at least s drawings contain, each with its support
+abbrev pub Often : (ds : List Drawing) (s : ℕ) → Drawing → Type 0
+Often ds s p = s ≤ support p ds
+
+abbrev pub support-in : List Drawing → Drawing → ℕ
+support-in ds p = support p ds
+
+abbrev pub Frequent-entry : (labels : Rec → Rec → Bool) (ds : List Drawing) (s l : ℕ) → Entry → Type 0
+Frequent-entry labels ds s = Entry-of labels (Often ds s) (support-in ds)
+
+abbrev pub Catalogue-by : (labels : Rec → Rec → Bool) (ds : List Drawing) (s l : ℕ) (es : List Entry) → Type 0
+Catalogue-by labels ds s = List-of labels (Often ds s) (support-in ds)
 
 abbrev pub Catalogue : (ds : List Drawing) (s l : ℕ) (es : List Entry) → Type 0
 Catalogue = Catalogue-by kinds-before

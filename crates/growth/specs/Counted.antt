@@ -18,7 +18,8 @@ use Rattle.codes.specs.Code.{Rec, Reading, fresh, rows-refusal, read-rows, deco
 use Rattle.codes.specs.ReadRows.{good-from-test, good-to-test}
 use Rattle.codes.specs.Greedy.{Fits}
 use Rattle.codes.specs.Decoded.{decoded-pattern}
-use Rattle.growth.specs.Frequent.{Frequent, some-containing, fits-contained, contained-fits}
+use Rattle.growth.specs.FamilyLaws.{fits-contained, contained-fits}
+use Rattle.growth.specs.Frequent.{Frequent, some-containing}
 use Rattle.growth.specs.Places.{Ranks, place-of, record-at}
 use Rattle.growth.specs.CellLaws.{some-member, member-below}
 use Rattle.growth.specs.PlaceLaws.{Placed, place-below, place-record, place-same}
@@ -64,7 +65,7 @@ pub frequent-fits :
     (labels : Rec → Rec → Bool) (ds : List Drawing) (s : ℕ) → 1 ≤ s → (γ : List Rec) (e : Rec) → Frequent labels ds s (snoc γ e)
     → (d : Drawing) × Mem d ds × Fits d (snoc γ e)
 frequent-fits labels ds s one γ e f =
-    let c = some-containing (decoded (snoc γ e)) ds (omega (arith, f .often)) in
+    let c = some-containing (decoded (snoc γ e)) ds (omega (arith, f .wanted)) in
     (c .0, c .1, contained-grown γ (c .0) e (good-from-test (snoc γ e) (f .least .code .good) .accepted) (c .2))
 
 -- WHAT IS COUNTED AFTER ROWS γ: records placed by the reading x, all that extend γ of those that fit once
@@ -133,7 +134,7 @@ module _ {ds : List Drawing} {rank labels : List ℕ} {n : ℕ} {γ : List Rec} 
       → s ≤ count-true (sets (place-of rank n e))
   counted-candidate s one before e into f =
       let q = frequent-fits before ds s one γ e f in
-      rw (counted-support (q .0) (q .1) e (into (q .0) (q .2))) (f .often)
+      rw (counted-support (q .0) (q .1) e (into (q .0) (q .2))) (f .wanted)
 
   -- A PLACE WITH A DRAWING is that of the record read off it, and counts the drawings that contain the grown pattern
   pub record Candidate (p : ℕ) : Type 0 where

@@ -3,13 +3,12 @@
 use mathlib.Core.Path.{_≡_, refl, sym, ap, subst, _∙_}
 use mathlib.Core.Bool.{Bool, true, false, cond}
 use mathlib.Core.List.{List, [], _∷_, map}
-use Prim.Native.Nat.{ℕ, zero, suc, _+_, _*_, _-_, _≤_, _<_}
+use Prim.Native.Nat.{ℕ, suc, _+_, _*_, _-_, _≤_, _<_}
 use native.Mathlib.Omega.{arith}
 use lib.ListN.{length, getD, length-map}
 use Rattle.laws.specs.Lists.{Mem, mem-eq}
 use Rattle.laws.specs.Counting.{Different, different-below}
-use Rattle.laws.specs.Orders.{Strict-order}
-use Rattle.laws.specs.Rising.{Rises, rises-head, rises-tail}
+use Rattle.laws.specs.Rising.{rises-different}
 use Rattle.laws.specs.Selections.{Sent, map-from}
 use Rattle.graphs.specs.Drawing.{Drawing}
 use Rattle.graphs.specs.Map.{Same, contains}
@@ -24,7 +23,6 @@ use Rattle.codes.specs.FullCode.{coded-from-test, coded-length}
 use Rattle.codes.specs.CodesTell.{least-codes-tell}
 use Rattle.growth.specs.Catalogue.{Entry, Frequent-entry, Catalogue}
 use Rattle.graphs.specs.MarkCounts.{
-  few-marks,
   marks-number,
   few-upto,
   few-most,
@@ -76,12 +74,6 @@ module _ {A : Type 0} (n : ℕ) (R : A → ℕ → Type 0) (xs : List A) (tells 
   named-most d have =
       let s = named xs d have in
       omega (arith, s .size, different-below n (s .ks) (s .different) (s .low))
-
--- what rises has no element twice
-rises-different : {A : Type 0} (lt : A → A → Bool) → Strict-order lt → (xs : List A) → Rises lt xs → Different xs
-unfolding Different
-rises-different lt o [] r = tt
-rises-different lt o (x ∷ xs) r = (λ m. o .irrefl x (rises-head lt x xs r x m), rises-different lt o xs (rises-tail lt x xs r))
 
 -- where a pattern with support is contained
 some-contains :
@@ -182,7 +174,7 @@ module _ (none : Drawing) (ds : List Drawing) (sized : Sized-survey none ds) whe
   -- EVERY FREQUENT ENTRY has one
   has-number : (s l : ℕ) → 1 ≤ s → l ≤ 8 → (e : Entry) → Frequent-entry kinds-before ds s l e → (k : ℕ) × (k < 8446368) × Code-number (e .code) k
   unfolding support containing
-  has-number s l one small e t = go (some-contains p none ds (omega (arith, t .support-is, t .frequent)))
+  has-number s l one small e t = go (some-contains p none ds (omega (arith, t .support-is, t .wanted)))
     where
       p : Drawing
       p = t .pattern

@@ -1,58 +1,25 @@
--- Frequent least codes: what a catalogue lists. Prefixes of them are frequent and least too, and each of their records
--- comes from a cable of some drawing. Rests on the prefix theorem and on support. Assumes nothing.
-use mathlib.Core.Path.{_≡_, refl, sym, ap, _∙_, subst}
+-- Frequent least codes: what a catalogue lists. They are a closed family, and each of their records comes from a cable of some drawing. Rests
+-- on FamilyLaws and on support. Assumes nothing.
+use mathlib.Core.Path.{_≡_, refl}
 use mathlib.Core.Bool.{Bool, true, false, cond}
-use mathlib.Core.List.{List, [], _∷_, _++_, map, append-assoc, append-nil}
+use mathlib.Core.List.{List, [], _∷_, _++_, map}
 use mathlib.Core.Logic.{_⊎_, inl, inr}
-use Prim.Native.Nat.{ℕ, suc, _+_, _≤_, _<_}
+use Prim.Native.Nat.{ℕ, _+_, _≤_}
 use native.Mathlib.Omega.{arith}
 use native.Mathlib.Decide.{decLe}
-use lib.Dec.{eqb}
-use lib.ListN.{length, length-append}
-use borrow.Author.Tests.{ne-eqb}
-use Rattle.laws.specs.Tests.{Three, less, same, more, test, true-and-false}
 use Rattle.laws.specs.Lists.{Mem, snoc, concat, mem-concat, mem-map}
-use Rattle.graphs.specs.Drawing.{Drawing, devices, is-pattern, byte-list}
+use Rattle.graphs.specs.Drawing.{Drawing}
 use Rattle.graphs.specs.Map.{contains}
 use Rattle.graphs.specs.Survey.{containing, count-true, support}
-use Rattle.graphs.specs.Embedding.{Embedding, Ends-in-range}
-use Rattle.graphs.specs.Graph.{Pattern}
-use Rattle.graphs.specs.Patterns.{pattern-from-test, pattern-to-test, byte-list-split}
-use Rattle.graphs.specs.LeastMap.{contains-from-embedding, embedding-from-contains}
-use Rattle.graphs.specs.Containment.{support-falls}
-use Rattle.codes.specs.Code.{
-  Rec,
-  Reading,
-  fresh,
-  forward,
-  begun,
-  stepped,
-  read-rows,
-  rows-refusal,
-  rows-good,
-  decoded,
-  before-by,
-  Least-by,
-}
-use Rattle.codes.specs.CodeOrder.{Label-order, before-strict}
-use Rattle.codes.specs.ReadRows.{Good, good-from-test, good-to-test, rows-divided, rows-invariant, read-append}
-use Rattle.codes.specs.Greedy.{Fits, fits-prefix}
-use Rattle.codes.specs.FullCode.{coded-itself, coded-fits, decoded-simple, least-unique}
-use Rattle.codes.specs.LeastCode.{least-code-there, prefix-of-least-is-least}
+use Rattle.graphs.specs.Containment.{support-falls, same-support}
+use Rattle.codes.specs.Code.{Rec, fresh, rows-refusal, decoded}
+use Rattle.codes.specs.CodeOrder.{Label-order}
+use Rattle.codes.specs.ReadRows.{good-from-test}
+use Rattle.codes.specs.Greedy.{Fits}
 use Rattle.codes.specs.LeastExtension.{candidates, fits-candidate}
-use Rattle.codes.specs.Decoded.{decoded-pattern}
-
--- a drawing contains what accepted rows describe exactly if they fit it
-pub fits-contained : (d : Drawing) (r : Rec) (rs : List Rec) → Fits d (r ∷ rs) → contains (decoded (r ∷ rs)) d ≡ true
-unfolding decoded
-fits-contained d r rs t = contains-from-embedding (decoded (r ∷ rs)) d (t .numbering) (rows-invariant r rs (t .accepted) .simple .ends) (t .embedding)
-
-pub contained-fits : (d : Drawing) (r : Rec) (rs : List Rec) → rows-refusal fresh (r ∷ rs) ≡ 0 → contains (decoded (r ∷ rs)) d ≡ true
-    → Fits d (r ∷ rs)
-unfolding decoded
-contained-fits d r rs ok h =
-    let m = embedding-from-contains (decoded (r ∷ rs)) d (rows-invariant r rs ok .simple .ends) h in
-    record { accepted = ok; numbering = m .0; embedding = m .1 }
+use Rattle.growth.specs.Catalogue.{Often, support-in}
+use Rattle.growth.specs.Family.{Listable, Closed, Decidable, Kept-by-maps}
+use Rattle.growth.specs.FamilyLaws.{contained-fits, listable-prefix, decide-listable}
 
 -- what has support some drawing contains
 pub some-containing : (p : Drawing) (ds : List Drawing) → 1 ≤ support p ds → (d : Drawing) × Mem d ds × (contains p d ≡ true)
@@ -66,120 +33,30 @@ some-containing p (d ∷ ds) h = go (contains p d) refl (some-containing p ds) h
     go true q ih n = (d, Mem.here refl, q)
     go false q ih n = let t = ih (omega arith) in (t .0, Mem.there (t .1), t .2)
 
--- WHETHER a code is the least of a pattern can be decided
-pub decide-least :
-    (labels : Rec → Rec → Bool) → Label-order labels → (d : Drawing) → Pattern d → (rs : List Rec) → Least-by labels d rs ⊎ (Least-by labels d rs → ⊥)
-decide-least labels o d p rs = go (before-strict labels o .tri (l .0) rs)
+-- WHAT A CATALOGUE LISTS
+abbrev pub Frequent : (labels : Rec → Rec → Bool) (ds : List Drawing) (s : ℕ) → List Rec → Type 0
+Frequent labels ds s = Listable labels (Often ds s)
+
+-- it is a closed family, support does not look at the devices' numbers, and what is frequent can be decided
+pub often-closed : (ds : List Drawing) (s : ℕ) → Closed (Often ds s)
+often-closed ds s p q a b h often = omega (arith, often, support-falls p q (a .simple .ends) (b .simple .ends) h ds)
+
+pub support-kept : (ds : List Drawing) → Kept-by-maps (support-in ds)
+support-kept ds p q a b s = same-support p q a b s ds
+
+pub often-decided : (ds : List Drawing) (s : ℕ) → Decidable (Often ds s)
+often-decided ds s p = go (decLe s (support p ds))
   where
-    l : (rs : List Rec) × Least-by labels d rs
-    l = least-code-there labels o d p
-
-    only : Least-by labels d rs → l .0 ≡ rs
-    only m = least-unique labels o d (l .0) rs (l .1) m
-
-    go :
-        Three (before-by labels (l .0) rs ≡ true) (l .0 ≡ rs) (before-by labels rs (l .0) ≡ true)
-        → Least-by labels d rs ⊎ (Least-by labels d rs → ⊥)
-    go (less q) = inr (λ m. before-strict labels o .irrefl rs (rw (only m) at q))
-    go (same q) = inl (rw q at (l .1))
-    go (more q) = inr (λ m. before-strict labels o .irrefl rs (rw (only m) at q))
-
-module _ (labels : Rec → Rec → Bool) (ds : List Drawing) (s : ℕ) where
-  -- WHAT A CATALOGUE LISTS
-  pub record Frequent (rs : List Rec) : Type 0 where
-    pub drawn : is-pattern (decoded rs) ≡ true
-    pub least : Least-by labels (decoded rs) rs
-    pub often : s ≤ support (decoded rs) ds
-
--- KINDS of a prefix are bytes where the whole code's are
-stepped-kinds : (x : Reading) (r : Rec) → 0 < length (x .kinds) → (k : List ℕ) × (stepped x r .kinds ≡ x .kinds ++ k)
-unfolding stepped
-stepped-kinds x r n = go (ne-eqb (length (x .kinds)) 0 (λ e. omega arith)) (forward r) refl
-  where
-    go : eqb (length (x .kinds)) 0 ≡ false → (t : Bool) → forward r ≡ t → (k : List ℕ) × (stepped x r .kinds ≡ x .kinds ++ k)
-    go e true f = (r .kj ∷ [], rw (e, f))
-    go e false f = ([], rw (e, f, append-nil))
-
-shorter-kinds : (x : Reading) (rs : List Rec) → 0 < length (x .kinds) → byte-list (read-rows x rs .kinds) ≡ true → byte-list (x .kinds) ≡ true
-unfolding read-rows
-shorter-kinds x [] n b = b
-shorter-kinds x (r ∷ rs) n b =
-    let g = stepped-kinds x r n in
-    let h = shorter-kinds (stepped x r) rs (omega (arith, ap length (g .1), length-append (x .kinds) (g .0))) b in
-    byte-list-split (x .kinds) (g .0) (rw (g .1) at h) .0
-
--- PREFIXES of rows that are good, and what they describe
-pub prefix-good : (r : Rec) (rs ss : List Rec) → rows-good (r ∷ rs ++ ss) ≡ true → rows-good (r ∷ rs) ≡ true
-prefix-good r rs ss h =
-    let g = good-from-test (r ∷ rs ++ ss) h in
-    good-to-test (r ∷ rs)
-    (record { one = omega arith; most = omega (arith, g .most, length-append rs ss); accepted = rows-divided fresh (r ∷ rs) ss (g .accepted) .0 })
-
-pub prefix-pattern : (r : Rec) (rs ss : List Rec) → rows-good (r ∷ rs ++ ss) ≡ true → is-pattern (decoded (r ∷ rs ++ ss)) ≡ true
-    → is-pattern (decoded (r ∷ rs)) ≡ true
-unfolding decoded
-prefix-pattern r rs ss h p = pattern-to-test (decoded (r ∷ rs)) (decoded-pattern (r ∷ rs) g bytes)
-  where
-    g : rows-good (r ∷ rs) ≡ true
-    g = prefix-good r rs ss h
-
-    x : Reading
-    x = read-rows fresh (r ∷ rs)
-
-    bytes : byte-list (x .kinds) ≡ true
-    bytes =
-        shorter-kinds x ss (omega (arith, rows-invariant r rs (good-from-test (r ∷ rs) g .accepted) .two))
-        (subst (λ (y : Reading). byte-list (y .kinds) ≡ true) (read-append fresh (r ∷ rs) ss) (pattern-from-test (decoded (r ∷ rs ++ ss)) p .bytes))
-
--- a prefix describes what the whole code's drawing contains
-pub prefix-contained : (r : Rec) (rs ss : List Rec) → rows-good (r ∷ rs ++ ss) ≡ true → contains (decoded (r ∷ rs)) (decoded (r ∷ rs ++ ss)) ≡ true
-prefix-contained r rs ss h =
-    fits-contained (decoded (r ∷ rs ++ ss)) r rs
-    (fits-prefix (decoded (r ∷ rs ++ ss)) (r ∷ rs) ss (coded-fits (coded-itself r (rs ++ ss) (good-from-test (r ∷ rs ++ ss) h .accepted))))
+    go : Dec (s ≤ support p ds) → (s ≤ support p ds) ⊎ (s ≤ support p ds → ⊥)
+    go (yes q) = inl q
+    go (no q) = inr q
 
 module _ (labels : Rec → Rec → Bool) (o : Label-order labels) (ds : List Drawing) (s : ℕ) where
-  -- A PREFIX of what is frequent and least is frequent and least
   pub frequent-prefix : (γ : List Rec) (e : Rec) (rest : List Rec) → Frequent labels ds s (γ ++ e ∷ rest) → Frequent labels ds s (snoc γ e)
-  frequent-prefix γ e rest f = go γ f
-    where
-      shorter : (r : Rec) (rs ss : List Rec) → Frequent labels ds s (r ∷ rs ++ ss) → Frequent labels ds s (r ∷ rs)
-      shorter r rs ss f =
-          let g = f .least .code .good in
-          let p = prefix-pattern r rs ss g (f .drawn) in
-          record {
-            drawn = p;
-            least = prefix-of-least-is-least labels o (decoded (r ∷ rs ++ ss))
-                (pattern-from-test (decoded (r ∷ rs ++ ss)) (f .drawn)) r rs ss (f .least);
-            often =
-                omega (
-                  arith,
-                  f .often,
-                  support-falls (decoded (r ∷ rs)) (decoded (r ∷ rs ++ ss)) (pattern-from-test (decoded (r ∷ rs)) p .simple .ends)
-                      (pattern-from-test (decoded (r ∷ rs ++ ss)) (f .drawn) .simple .ends) (prefix-contained r rs ss g) ds,
-                );
-          }
+  frequent-prefix = listable-prefix labels o (Often ds s) (often-closed ds s)
 
-      go : (γ : List Rec) → Frequent labels ds s (γ ++ e ∷ rest) → Frequent labels ds s (snoc γ e)
-      go [] f = shorter e [] rest f
-      go (r ∷ rs) f = shorter r (snoc rs e) rest (rw append-assoc f)
-
-  -- WHETHER rows are frequent and least can be decided
   pub decide-frequent : (rs : List Rec) → Frequent labels ds s rs ⊎ (Frequent labels ds s rs → ⊥)
-  decide-frequent rs = by-pattern (test (is-pattern (decoded rs)))
-    where
-      by-support : is-pattern (decoded rs) ≡ true → Least-by labels (decoded rs) rs → Dec (s ≤ support (decoded rs) ds)
-          → Frequent labels ds s rs ⊎ (Frequent labels ds s rs → ⊥)
-      by-support p m (yes q) = inl (record { drawn = p; least = m; often = q })
-      by-support p m (no q) = inr (λ f. q (f .often))
-
-      by-least : is-pattern (decoded rs) ≡ true → Least-by labels (decoded rs) rs ⊎ (Least-by labels (decoded rs) rs → ⊥)
-          → Frequent labels ds s rs ⊎ (Frequent labels ds s rs → ⊥)
-      by-least p (inl m) = by-support p m (decLe s (support (decoded rs) ds))
-      by-least p (inr m) = inr (λ f. m (f .least))
-
-      by-pattern : (is-pattern (decoded rs) ≡ true) ⊎ (is-pattern (decoded rs) ≡ false) → Frequent labels ds s rs ⊎ (Frequent labels ds s rs → ⊥)
-      by-pattern (inl p) = by-least p (decide-least labels o (decoded rs) (pattern-from-test (decoded rs) p) rs)
-      by-pattern (inr p) = inr (λ f. true-and-false (f .drawn) p)
+  decide-frequent = decide-listable labels o (Often ds s) (often-decided ds s)
 
   -- EVERY RECORD of what is frequent comes from a cable of some drawing
   pub survey-candidates : List Rec
@@ -201,5 +78,5 @@ module _ (labels : Rec → Rec → Bool) (o : Label-order labels) (ds : List Dra
 
       go : Frequent labels ds s (snoc γ e) → Mem e (concat (map candidates ds))
       go f =
-          let c = some-containing (decoded (snoc γ e)) ds (omega (arith, f .often)) in
+          let c = some-containing (decoded (snoc γ e)) ds (omega (arith, f .wanted)) in
           from (c .0) (c .1) (fits γ (c .0) (accepted f) (c .2))

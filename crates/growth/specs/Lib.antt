@@ -1,5 +1,6 @@
 -- Definitions.
 pub mod Catalogue
+pub mod Family
 pub mod Sizes
 pub mod Places
 pub mod Cells
@@ -10,10 +11,13 @@ pub mod EntryCount
 pub mod Settings
 pub mod SurveySizes
 pub mod Growth
+pub mod FamilyLaws
+pub mod FamilyLists
 pub mod Frequent
 pub mod Catalogues
 pub mod Marks
 pub mod Output
+pub mod Listings
 pub mod CellLaws
 pub mod RecordOrder
 pub mod PlaceLaws
@@ -26,3 +30,4 @@ pub mod Firsts
 pub mod Walking
 pub mod MinedLaws
 pub mod EntryLaws
+pub mod ListingLaws

@@ -66,7 +66,7 @@ module _ (labels : Rec → Rec → Bool) (o : Label-order labels) (ds : List Dra
       record {
         drawn = u .0;
         least = least-from-test labels o (decoded rs) (pattern-from-test (decoded rs) (u .0)) rs (w .0);
-        often = leb-true s (support (decoded rs) ds) (w .1);
+        wanted = leb-true s (support (decoded rs) ds) (w .1);
       }
 
   pub frequent-to-test : (rs : List Rec) → Frequent labels ds s rs → is-frequent labels ds s rs ≡ true
@@ -75,7 +75,7 @@ module _ (labels : Rec → Rec → Bool) (o : Label-order labels) (ds : List Dra
       and-both (f .least .code .good)
       (and-both (f .drawn)
       (and-both (least-to-test labels o (decoded rs) (pattern-from-test (decoded rs) (f .drawn)) rs (f .least))
-      (le-leb s (support (decoded rs) ds) (f .often))))
+      (le-leb s (support (decoded rs) ds) (f .wanted))))
 
   module _ (one : 1 ≤ s) (l : ℕ) where
     -- every record by which a frequent code goes on is tried

@@ -1,31 +1,28 @@
 -- What a walk that writes entries as it goes has done: the codes listed so far stand before all that is to come, so if the
--- next one does not fit, the whole catalogue does not. Rests on Growth and Catalogues. Assumes nothing.
-use mathlib.Core.Path.{_≡_, refl, sym, ap, _∙_, subst}
+-- next one does not fit, the whole list does not. Rests on Growth and FamilyLaws. Assumes nothing.
+use mathlib.Core.Path.{_≡_, subst}
 use mathlib.Core.Bool.{Bool, true}
 use mathlib.Core.List.{List, [], _∷_, _++_, map}
 use mathlib.Core.Logic.{_⊎_, inl, inr}
-use Prim.Native.Nat.{ℕ, suc, _+_, _*_, _≤_, _<_}
-use native.Mathlib.Omega.{arith}
-use lib.ListN.{length, length-append, length-map}
+use Prim.Native.Nat.{ℕ, _≤_}
+use lib.ListN.{length, length-map}
 use Rattle.laws.specs.Lists.{Mem, snoc, mem-cases, mem-map}
-use Rattle.laws.specs.Counting.{Different, different-fewer}
-use Rattle.laws.specs.Rising.{Rises, rises-nil, rises-cons, rises-append}
+use Rattle.laws.specs.Counting.{different-fewer}
+use Rattle.laws.specs.Rising.{Rises, rises-nil, rises-cons, rises-append, rises-different}
 use Rattle.graphs.specs.Drawing.{Drawing}
-use Rattle.graphs.specs.Survey.{support}
 use Rattle.codes.specs.Code.{Rec, rec-before-by, before-by, decoded}
 use Rattle.codes.specs.CodeOrder.{Label-order, before-strict, prefix-comes-before, difference-decides}
 use Rattle.codes.specs.FullCode.{coded-from-test, coded-length}
 use Rattle.graphs.specs.Patterns.{pattern-from-test}
-use Rattle.growth.specs.Catalogue.{Entry, entry, Catalogue-by}
+use Rattle.growth.specs.Catalogue.{Entry, List-of}
 use Rattle.growth.specs.Growth.{Listed}
-use Rattle.growth.specs.Frequent.{Frequent}
-use Rattle.growth.specs.Catalogues.{entry-for}
+use Rattle.growth.specs.Family.{Listable}
 
-module _ (labels : Rec → Rec → Bool) (o : Label-order labels) (ds : List Drawing) (s l : ℕ) where
+module _ (labels : Rec → Rec → Bool) (o : Label-order labels) (Wanted : Drawing → Type 0) (l : ℕ) where
   -- codes that are listed rightly, rising
   pub record Done (cs : List (List Rec)) : Type 0 where
     pub rise : Rises (before-by labels) cs
-    pub right : (c : List Rec) → Mem c cs → Frequent labels ds s c × (length c ≤ l)
+    pub right : (c : List Rec) → Mem c cs → Listable labels Wanted c × (length c ≤ l)
 
   -- and all of them before γ
   pub record Ahead (cs : List (List Rec)) (γ : List Rec) : Type 0 where
@@ -36,7 +33,7 @@ module _ (labels : Rec → Rec → Bool) (o : Label-order labels) (ds : List Dra
   ahead-nothing γ = record { done = record { rise = rises-nil (before-by labels); right = λ c m. elim m [ ] }; earlier = λ c m. elim m [ ] }
 
   -- γ itself is listed
-  pub done-snoc : (cs : List (List Rec)) (γ : List Rec) → Ahead cs γ → Frequent labels ds s γ → length γ ≤ l → Done (snoc cs γ)
+  pub done-snoc : (cs : List (List Rec)) (γ : List Rec) → Ahead cs γ → Listable labels Wanted γ → length γ ≤ l → Done (snoc cs γ)
   done-snoc cs γ a f n = record { rise = rise; right = λ c m. right c (mem-cases cs m) }
     where
       last : (x y : List Rec) → Mem x cs → Mem y (γ ∷ []) → before-by labels x y ≡ true
@@ -48,14 +45,14 @@ module _ (labels : Rec → Rec → Bool) (o : Label-order labels) (ds : List Dra
           rises-append (before-by labels) cs (γ ∷ []) (a .done .rise)
           (rises-cons (before-by labels) γ [] (λ y m. elim m [ ]) (rises-nil (before-by labels))) last
 
-      right : (c : List Rec) → Mem c cs ⊎ Mem c (γ ∷ []) → Frequent labels ds s c × (length c ≤ l)
+      right : (c : List Rec) → Mem c cs ⊎ Mem c (γ ∷ []) → Listable labels Wanted c × (length c ≤ l)
       right c (inl m) = a .done .right c m
-      right c (inr (Mem.here q)) = (subst (Frequent labels ds s) q f, rw (← q) n)
+      right c (inr (Mem.here q)) = (subst (Listable labels Wanted) q f, rw (← q) n)
       right c (inr (Mem.there m)) = elim m [ ]
 
   -- what grows from γ comes after it
   pub ahead-child :
-      (cs : List (List Rec)) (γ : List Rec) (e : Rec) → Ahead cs γ → Frequent labels ds s γ → length γ ≤ l → Ahead (snoc cs γ) (snoc γ e)
+      (cs : List (List Rec)) (γ : List Rec) (e : Rec) → Ahead cs γ → Listable labels Wanted γ → length γ ≤ l → Ahead (snoc cs γ) (snoc γ e)
   ahead-child cs γ e a f n = record { done = done-snoc cs γ a f n; earlier = λ c m. earlier c (mem-cases cs m) }
     where
       own : before-by labels γ (snoc γ e) ≡ true
@@ -90,8 +87,8 @@ module _ (labels : Rec → Rec → Bool) (o : Label-order labels) (ds : List Dra
 
   -- a listing below a code is listed rightly, after what stands before the code
   pub done-listed :
-      (cs : List (List Rec)) (γ : List Rec) (more : List (List Rec)) → Ahead cs γ → Frequent labels ds s γ → length γ ≤ l
-      → Listed labels o (Frequent labels ds s) l γ more → Done (snoc cs γ ++ more)
+      (cs : List (List Rec)) (γ : List Rec) (more : List (List Rec)) → Ahead cs γ → Listable labels Wanted γ → length γ ≤ l
+      → Listed labels o (Listable labels Wanted) l γ more → Done (snoc cs γ ++ more)
   done-listed cs γ more a f n t =
       record {
         rise = rises-append (before-by labels) (snoc cs γ) more (d .rise) (t .rise) (λ x y p q. apart x y (mem-cases cs p) q);
@@ -109,24 +106,21 @@ module _ (labels : Rec → Rec → Bool) (o : Label-order labels) (ds : List Dra
       apart x y (inr (Mem.here p)) q = rw (← p) (own y q)
       apart x y (inr (Mem.there p)) q = elim p [ ]
 
-      right : (c : List Rec) → Mem c (snoc cs γ) ⊎ Mem c more → Frequent labels ds s c × (length c ≤ l)
+      right : (c : List Rec) → Mem c (snoc cs γ) ⊎ Mem c more → Listable labels Wanted c × (length c ≤ l)
       right c (inl m) = d .right c m
       right c (inr m) = let w = t .sound c m in (w .0, w .1)
 
-  -- THE WHOLE CATALOGUE HAS AT LEAST AS MANY ENTRIES
-  rises-different : (cs : List (List Rec)) → Rises (before-by labels) cs → Different cs
-  unfolding Rises Different
-  rises-different [] h = tt
-  rises-different (c ∷ cs) h = (λ m. before-strict labels o .irrefl c (h .0 c m), rises-different cs (h .1))
-
-  pub done-fewer : (cs : List (List Rec)) (es : List Entry) → Done cs → Catalogue-by labels ds s l es → length cs ≤ length es
-  done-fewer cs es d c =
+  -- THE WHOLE LIST HAS AT LEAST AS MANY ENTRIES
+  pub done-fewer : (figure : Drawing → ℕ) (cs : List (List Rec)) (es : List Entry) → Done cs → List-of labels Wanted figure l es
+      → length cs ≤ length es
+  done-fewer figure cs es d c =
       rw (length-map es (λ e. e .code)) at
-      (different-fewer cs (map (λ e. e .code) es) (rises-different cs (d .rise)) (λ x m. listed x (d .right x m)))
+      (different-fewer cs (map (λ e. e .code) es) (rises-different (before-by labels) (before-strict labels o) cs (d .rise))
+      (λ x m. listed x (d .right x m)))
     where
-      listed : (x : List Rec) → Frequent labels ds s x × (length x ≤ l) → Mem x (map (λ e. e .code) es)
+      listed : (x : List Rec) → Listable labels Wanted x × (length x ≤ l) → Mem x (map (λ e. e .code) es)
       listed x (f, n) =
           let p = pattern-from-test (decoded x) (f .drawn) .simple in
           mem-map (λ (e : Entry). e .code)
           (c .whole (decoded x) x (f .drawn)
-          (rw (← coded-length (decoded x) p x (coded-from-test (decoded x) p x (f .least .code))) n) (f .often) (f .least))
+          (rw (← coded-length (decoded x) p x (coded-from-test (decoded x) p x (f .least .code))) n) (f .wanted) (f .least))

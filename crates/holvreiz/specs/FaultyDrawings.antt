@@ -1,4 +1,4 @@
--- The drawing at fault in the answer of a catalogue is one of the survey's. Assumes nothing.
+-- The drawing at fault in the answer of a catalogue is one of the survey's; the book names none. Assumes nothing.
 use mathlib.Core.Path.{_≡_, refl}
 use mathlib.Core.Bool.{Bool, true, false, _&&_, not, cond}
 use mathlib.Core.List.{List, [], _∷_}
@@ -9,14 +9,16 @@ use lib.ListN.{length}
 use borrow.Author.Tests.{leb-true, eqb-true}
 use Rattle.laws.specs.Tests.{and-split}
 use Rattle.laws.specs.Rows.{rows-length}
-use Rattle.graphs.specs.Drawing.{drawing-refusal}
+use Rattle.graphs.specs.Drawing.{Drawing, drawing-refusal}
 use Rattle.graphs.specs.Survey as surveys
 use Rattle.graphs.specs.Survey.{survey, records-in, drawings-refusal, length-refusal, bytes-refusal, survey-refusal}
-use Rattle.growth.specs.Catalogue.{Entry}
+use Rattle.growth.specs.Catalogue.{Entry, Often, support-in}
+use Rattle.books.specs.Book.{Small, unsupported, book-refusal}
 use Rattle.records.specs.declared.catalogued.Catalogued.{Catalogued}
-use Rattle.records.specs.declared.catalogued.Catalogued.the-variants.{Entries, Refused}
-use Rattle.records.specs.Catalogued.{catalogued-refusal, catalogued-count}
-use Rattle.mining.specs.CatalogueSays.{Entries-written, Catalogue-as, Catalogue-says}
+use Rattle.records.specs.Catalogued.{catalogued-refusal}
+use Rattle.entries.specs.Written.{Entries-written, List-as, List-says}
+use Rattle.mining.specs.CatalogueSays.{Catalogue-says}
+use Rattle.pattern_book.specs.BookSays.{Book-says}
 
 -- THE DRAWING AT FAULT, or 0 where none is
 module _ (most : ℕ) (some : 0 < most) where
@@ -61,13 +63,24 @@ survey-drawing bs s l =
     either-drawing 32 (lit< tt) (not (leb 1 s && leb s 32)) _ _ (lit< tt)
     (either-drawing 32 (lit< tt) (not (leb 1 l && leb l 8)) _ _ (lit< tt) (bytes-drawing bs))
 
-pub says-drawing : (bs : List ℕ) (s l : ℕ) (r : Catalogued) (o z : List ℕ) → Catalogue-says bs s l r o z → catalogued-refusal r .drawing < 32
-says-drawing bs s l r o z says = go (survey-refusal bs s l .number) says
+-- A LIST that is refused names the drawing of its refusal, and none with 15
+pub list-drawing :
+    (f : surveys.Refusal) (Wanted : Drawing → Type 0) (figure : Drawing → ℕ) (l : ℕ) (r : Catalogued) (o z : List ℕ) → f .drawing < 32
+    → List-says f Wanted figure l r o z → catalogued-refusal r .drawing < 32
+list-drawing f Wanted figure l r o z low says = go (f .number) says
   where
     written : (t : Bool) (es : List Entry) → Entries-written t es r o z → catalogued-refusal r .drawing < 32
     written true es w = unfold surveys.refusal in rw (w .0) (lit< tt)
     written false es w = unfold surveys.refusal in rw (w .0) (lit< tt)
 
-    go : (n : ℕ) → Catalogue-as n (survey-refusal bs s l) (survey bs) s l r o z → catalogued-refusal r .drawing < 32
+    go : (n : ℕ) → List-as n f Wanted figure l r o z → catalogued-refusal r .drawing < 32
     go zero w = written (ltb (length o) (42 * length (w .0))) (w .0) (w .2)
-    go (suc n) w = rw (w .0) (survey-drawing bs s l)
+    go (suc n) w = rw (w .0) low
+
+pub says-drawing : (bs : List ℕ) (s l : ℕ) (r : Catalogued) (o z : List ℕ) → Catalogue-says bs s l r o z → catalogued-refusal r .drawing < 32
+says-drawing bs s l r o z =
+    list-drawing (survey-refusal bs s l) (Often (survey bs) s) (support-in (survey bs)) l r o z (survey-drawing bs s l)
+
+pub book-drawing : (a b l : ℕ) (r : Catalogued) (o z : List ℕ) → Book-says a b l r o z → catalogued-refusal r .drawing < 32
+unfolding surveys.refusal
+book-drawing a b l r o z = list-drawing (surveys.refusal (book-refusal a b l) 0) (Small a b) unsupported l r o z (lit< tt)

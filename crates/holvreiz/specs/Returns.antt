@@ -17,6 +17,7 @@ use Rattle.matching.specs.MatchAnswers.{match-refusal, match-count, same-refusa
 use Rattle.records.specs.declared.catalogued.Catalogued.{Catalogued}
 use Rattle.records.specs.Catalogued.{catalogued-refusal, catalogued-count}
 use Rattle.mining.specs.CatalogueSays.{Catalogue-says}
+use Rattle.pattern_book.specs.BookSays.{Book-says}
 use Rattle.holvreiz.specs.Packed.{packed, packed-numbers}
 
 pub record Code-returns (drawing : List ℕ) (x : ℕ) (out out-now : List ℕ) : Type 0 where
@@ -52,4 +53,9 @@ pub record Same-returns (first second : List ℕ) (x : ℕ) : Type 0 where
 pub record Catalogue-returns (survey : List ℕ) (s l x : ℕ) (out out-now : List ℕ) : Type 0 where
   pub answer : Catalogued
   pub says : Catalogue-says survey s l answer out out-now
+  pub number : x ≡ packed (catalogued-refusal answer .number) (catalogued-count answer) (catalogued-refusal answer .drawing)
+
+pub record Book-returns (a b l x : ℕ) (out out-now : List ℕ) : Type 0 where
+  pub answer : Catalogued
+  pub says : Book-says a b l answer out out-now
   pub number : x ≡ packed (catalogued-refusal answer .number) (catalogued-count answer) (catalogued-refusal answer .drawing)

@@ -1,13 +1,14 @@
-// The catalogue for other languages.
+// The catalogue and the book for other languages.
 use crate::number::counted;
 use crate::number::refused;
 use mining::catalogue::write_catalogue;
+use pattern_book::book::write_book;
 use records::catalogued::Catalogued;
 ghost use mathlib.Core.Path.{_≡_};
 ghost use Prim.Native.Nat.{_<_};
 ghost use Rattle.records.specs.Catalogued.{catalogued-refusal, catalogued-count};
 ghost use Rattle.holvreiz.specs.Packed.{packed};
-ghost use Rattle.holvreiz.specs.Returns.{Catalogue-returns};
+ghost use Rattle.holvreiz.specs.Returns.{Catalogue-returns, Book-returns};
 
 fn catalogued_number(answer: Catalogued) -> u64
     requires { ⌜ catalogued-refusal answer .drawing < 32 ⌝ }
@@ -31,4 +32,13 @@ pub extern "C" fn holvreiz_catalogue(
     ensures { λ r. ⌜ Catalogue-returns (now (survey .entry)) threshold limit r (now (output .entry)) (now (output .exit)) ⌝ }
 {
     catalogued_number(write_catalogue(survey, threshold, limit, output))
+}
+
+// The book of all small patterns: those of at most `limit` cables, with device kinds below a and cable kinds below b. The count is
+// the number of entries written.
+#[no_mangle]
+pub extern "C" fn holvreiz_book(a: u32, b: u32, limit: u32, output: &mut [u8]) -> u64
+    ensures { λ r. ⌜ Book-returns a b limit r (now (output .entry)) (now (output .exit)) ⌝ }
+{
+    catalogued_number(write_book(a, b, limit, output))
 }

@@ -2,5 +2,5 @@
 // bytes that it is given. bindings/ has the header for C and the wrapper for Rust.
 pub mod code; // code.rt: coding, decoding, the least test, comparing
 pub mod map; // map.rt: matching and sameness
-pub mod catalogue; // catalogue.rt: the catalogue
+pub mod catalogue; // catalogue.rt: the catalogue and the book
 mod number; // number.rt: an answer as one number

@@ -1,39 +1,37 @@
 -- Writing the catalogue of an accepted survey, and the refusals before it. Rests on SurveyMined and Catalogues. Assumes nothing.
-use mathlib.Core.Path.{_≡_, refl, sym, ap, _∙_, subst}
-use mathlib.Core.Bool.{Bool, false, _&&_, not, cond}
-use mathlib.Core.List.{List, _++_, map}
+use mathlib.Core.Path.{_≡_, sym, ap, _∙_}
+use mathlib.Core.Bool.{_&&_, not, cond}
+use mathlib.Core.List.{List}
 use mathlib.Core.Logic.{_⊎_, inl, inr}
-use Prim.Native.Nat.{ℕ, zero, suc, _+_, _*_, _≤_, _<_}
+use Prim.Native.Nat.{ℕ, _≤_, _<_}
 use native.Mathlib.Omega.{arith}
-use lib.Dec.{ltb, leb}
-use lib.ListN.{length, drop, replicate, length-map}
-use borrow.Author.Tests.{lt-ltb, le-ltb, le-leb, lt-leb}
-use Rattle.laws.specs.Lists.{Mem}
-use Rattle.laws.specs.Rows.{concat-length}
+use lib.Dec.{leb}
+use lib.ListN.{length, replicate}
+use borrow.Author.Tests.{le-leb, lt-leb}
 use Rattle.graphs.specs.Survey as surveys
 use Rattle.graphs.specs.Survey.{survey, survey-refusal, bytes-refusal, refusal}
 use Rattle.codes.specs.Code.{kinds-before}
 use Rattle.codes.specs.CodeOrder.{kinds-order}
-use Rattle.growth.specs.Catalogue.{Entry, Catalogue, entry-bytes, all-bytes}
-use Rattle.growth.specs.Catalogues.{entry-for, listed-catalogue, catalogue-exists}
+use Rattle.growth.specs.Catalogue.{Often, support-in}
+use Rattle.growth.specs.Frequent.{often-closed, support-kept}
+use Rattle.growth.specs.Catalogues.{catalogue-exists}
 use Rattle.growth.specs.Places.{Ranks}
-use Rattle.growth.specs.Output.{done-fewer}
 use Rattle.records.specs.declared.refusal.Refusal.{Refusal}
 use Rattle.records.specs.declared.survey.SurveyChecked.{SurveyChecked}
 use Rattle.records.specs.declared.survey.SurveyChecked.the-variants as checked
 use Rattle.records.specs.Refusals.{number-positive}
 use Rattle.records.specs.Surveys.{Survey-answer, survey-checked}
 use Rattle.records.specs.declared.refusal.Refusal.the-variants.{OutputLength, Threshold, SizeLimit}
-use Rattle.laws.specs.Lent.{in-front}
 use Rattle.records.specs.declared.catalogued.Catalogued.{Catalogued}
 use Rattle.records.specs.declared.catalogued.Catalogued.the-variants.{Entries, Refused}
-use Rattle.growing.specs.declared.grow.Growth.the-variants.{To, Full}
+use Rattle.entries.specs.declared.output.Growth.the-variants.{To, Full}
 use Rattle.records.specs.Catalogued.{catalogued-refusal}
-use Rattle.mining.specs.CatalogueSays.{Entries-written, Catalogue-as, Catalogue-says}
+use Rattle.mining.specs.CatalogueSays.{Catalogue-says}
 use Rattle.walks.specs.LabelMarks.{drawings-of}
 use Rattle.walks.specs.DrawingTables.{Tables}
 use Rattle.walks.specs.LabelBits.{Bits-noted}
-use Rattle.growth.specs.EntryLaws.{entries-sized}
+use Rattle.entries.specs.Written.{List-written}
+use Rattle.entries.specs.WrittenLaws.{list-written, list-too-long, says-refused, says-list}
 use Rattle.survey_patterns.specs.SurveyMined.{Can-mine, Mined}
 
 -- the settings and the survey are accepted
@@ -46,7 +44,7 @@ pub record Accepted-call (bs : List ℕ) (s l : ℕ) : Type 0 where
 
 -- the catalogue is written, or 15
 abbrev pub Writes : (bytes : List ℕ) (s l : ℕ) (out : List ℕ) → Catalogued → (out-now : List ℕ) → Type 0
-Writes bs s l o r z = (es : List Entry) × Catalogue (drawings-of bs) s l es × Entries-written (ltb (length o) (42 * length es)) es r o z
+Writes bs s l o r z = List-written (Often (drawings-of bs) s) (support-in (drawings-of bs)) l o r z
 
 -- THE TABLES AT HAND
 pub tables-ready :
@@ -63,73 +61,34 @@ tables-ready a t o b =
       some = a .some;
     }
 
--- ALL ENTRIES have their bytes
-all-bytes-length : (es : List Entry) → ((e : Entry) → Mem e es → length (e .code) ≤ 8) → length (all-bytes es) ≡ 42 * length es
-unfolding all-bytes
-all-bytes-length es h = concat-length 42 (map entry-bytes es) (entries-sized es h) ∙ ap (λ (k : ℕ). 42 * k) (length-map es entry-bytes)
-
 module _ {bs : List ℕ} {s l : ℕ} (a : Accepted-call bs s l) (n : ℕ) where
   -- WRITTEN TO THE END
   pub writes-all :
       (o z : List ℕ) (k : ℕ) → Mined bs (record { labels = n; threshold = s; limit = l }) o (To k) z → length z ≡ length o
       → Writes bs s l o (Entries k) z
-  writes-all o z k m e = (es, catalogue, subst (λ (t : Bool). Entries-written t es (Entries k) o z) (sym fits) (ap Entries count, bytes))
-    where
-      es : List Entry
-      es = map (entry-for (drawings-of bs)) (m .more)
-
-      catalogue : Catalogue (drawings-of bs) s l (map (entry-for (drawings-of bs)) (m .more))
-      catalogue = listed-catalogue kinds-before kinds-order (drawings-of bs) s l (m .more) (m .which)
-
-      count : k ≡ length (map (entry-for (drawings-of bs)) (m .more))
-      count = m .lists .count-is ∙ sym (length-map (m .more) (entry-for (drawings-of bs)))
-
-      small : (e : Entry) → Mem e (map (entry-for (drawings-of bs)) (m .more)) → length (e .code) ≤ 8
-      small e i = omega (arith, catalogue .sound e i .size, a .small)
-
-      size : length (all-bytes (map (entry-for (drawings-of bs)) (m .more))) ≡ 42 * length (map (entry-for (drawings-of bs)) (m .more))
-      size = all-bytes-length _ small
-
-      bytes : z ≡ in-front (all-bytes (map (entry-for (drawings-of bs)) (m .more))) o
-      bytes =
-          m .lists .bytes
-          ∙ ap (λ (i : ℕ). all-bytes (map (entry-for (drawings-of bs)) (m .more)) ++ drop i o)
-          (ap (λ (i : ℕ). 42 * i) (sym (length-map (m .more) (entry-for (drawings-of bs)))) ∙ sym size)
-
-      fits : ltb (length o) (42 * length (map (entry-for (drawings-of bs)) (m .more))) ≡ false
-      fits = le-ltb (length o) _ (omega (arith, m .room, count, e))
+  writes-all =
+      list-written (Often (drawings-of bs) s) (support-in (drawings-of bs)) l (often-closed (drawings-of bs) s) (support-kept (drawings-of bs))
+      (a .small)
 
   -- DOES NOT FIT
   pub writes-empty :
       (o y z : List ℕ) → Mined bs (record { labels = n; threshold = s; limit = l }) o Full y → length y ≡ length o → z ≡ replicate (length y) 0
       → Writes bs s l o (Refused OutputLength 0) z
-  writes-empty o y z m e is =
-      let x = catalogue-exists kinds-before kinds-order (drawings-of bs) s l (a .one) in
-      let few = done-fewer kinds-before kinds-order (drawings-of bs) s l (m .codes) (x .0) (m .done) (x .1) in (
-        x .0,
-        x .1,
-        subst (λ (t : Bool). Entries-written t (x .0) (Refused OutputLength 0) o z)
-            (sym (lt-ltb (length o) (42 * length (x .0)) (omega (arith, m .long))))
-            (refl, is ∙ ap (λ (k : ℕ). replicate k 0) e),
-      )
+  writes-empty =
+      list-too-long (Often (drawings-of bs) s) (support-in (drawings-of bs)) l
+      (catalogue-exists kinds-before kinds-order (drawings-of bs) s l (a .one))
 
 -- THE OUTCOME OF THE CALL
-positive : (m : ℕ) → 0 < m → (n : ℕ) × (m ≡ suc n)
-positive zero h = absurd (omega arith)
-positive (suc n) h = (n, refl)
-
 module _ (bs : List ℕ) (s l : ℕ) (o z : List ℕ) where
-  says-refused :
+  turned-back :
       (r : Catalogued) → 0 < catalogued-refusal r .number → survey-refusal bs s l ≡ catalogued-refusal r → z ≡ o → Catalogue-says bs s l r o z
-  says-refused r h e same =
-      let p = positive (catalogued-refusal r .number) h in
-      subst (λ (f : surveys.Refusal). Catalogue-as (f .number) f (survey bs) s l r o z) (sym e)
-      (subst (λ (n : ℕ). Catalogue-as n (catalogued-refusal r) (survey bs) s l r o z) (sym (p .1)) (refl, same))
+  turned-back r h e =
+      says-refused (survey-refusal bs s l) (Often (survey bs) s) (support-in (survey bs)) l r o z (rw e h) (sym e)
 
   -- 12
   pub says-threshold : (s < 1) ⊎ (32 < s) → z ≡ o → Catalogue-says bs s l (Refused Threshold 0) o z
   unfolding refusal survey-refusal
-  says-threshold w same = says-refused (Refused Threshold 0) (omega arith) (go w) same
+  says-threshold w same = turned-back (Refused Threshold 0) (omega arith) (go w) same
     where
       go : (s < 1) ⊎ (32 < s)
           → cond (not (leb 1 s && leb s 32)) (refusal 12 0) (cond (not (leb 1 l && leb l 8)) (refusal 13 0) (bytes-refusal bs)) ≡ refusal 12 0
@@ -140,7 +99,7 @@ module _ (bs : List ℕ) (s l : ℕ) (o z : List ℕ) where
     -- 13
     pub says-limit : (l < 1) ⊎ (8 < l) → z ≡ o → Catalogue-says bs s l (Refused SizeLimit 0) o z
     unfolding refusal survey-refusal
-    says-limit w same = says-refused (Refused SizeLimit 0) (omega arith) (go w) same
+    says-limit w same = turned-back (Refused SizeLimit 0) (omega arith) (go w) same
       where
         go : (l < 1) ⊎ (8 < l)
             → cond (not (leb 1 s && leb s 32)) (refusal 12 0) (cond (not (leb 1 l && leb l 8)) (refusal 13 0) (bytes-refusal bs)) ≡ refusal 13 0
@@ -158,7 +117,7 @@ module _ (bs : List ℕ) (s l : ℕ) (o z : List ℕ) where
           → Catalogue-says bs s l (Refused r d) o z
       unfolding refusal
       says-survey r d e t same =
-          says-refused (Refused r d) (number-positive r) (survey-decides ∙ sym (t .refusal) ∙ ap survey-checked e) same
+          turned-back (Refused r d) (number-positive r) (survey-decides ∙ sym (t .refusal) ∙ ap survey-checked e) same
 
       pub survey-fine : (n : ℕ) {a : SurveyChecked} → a ≡ checked.Accepted n → Survey-answer (bytes-refusal bs) bs a → Accepted-call bs s l
       unfolding refusal
@@ -174,5 +133,5 @@ module _ (bs : List ℕ) (s l : ℕ) (o z : List ℕ) where
   -- the catalogue, or 15
   pub says-written : (r : Catalogued) → Accepted-call bs s l → Writes bs s l o r z → Catalogue-says bs s l r o z
   says-written r a w =
-      subst (λ (n : ℕ). Catalogue-as n (survey-refusal bs s l) (survey bs) s l r o z)
-      (sym (ap (λ (f : surveys.Refusal). f .number) (survey-decides (a .one) (a .most) (a .some) (a .small)) ∙ a .accepted)) w
+      says-list (survey-refusal bs s l) (Often (survey bs) s) (support-in (survey bs)) l r o z
+      (ap (λ (f : surveys.Refusal). f .number) (survey-decides (a .one) (a .most) (a .some) (a .small)) ∙ a .accepted) w

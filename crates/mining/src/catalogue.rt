@@ -2,7 +2,7 @@
 use candidates::choose::CANDIDATES;
 use checks::survey::check_survey;
 use embeddings::rows::KEPT;
-use growing::grow::Growth;
+use entries::output::Growth;
 use growing::grow::Settings;
 use label_ranks::ranks::ALPHABET;
 use label_ranks::ranks::LABELS;

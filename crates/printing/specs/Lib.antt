@@ -1,5 +1,7 @@
 -- Definitions.
 pub mod Says
+pub mod ListTexts
 -- Laws over them.
 pub mod SaysLaws
 pub mod TextSizes
+pub mod ListTextLaws

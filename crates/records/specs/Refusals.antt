@@ -19,6 +19,8 @@ use Rattle.records.specs.declared.refusal.Refusal.the-variants.{
   SizeLimit,
   SurveyLength,
   OutputLength,
+  KindCount,
+  BookLimit,
 }
 use Rattle.records.specs.declared.refusal.Checked.{Checked}
 use Rattle.records.specs.declared.refusal.Checked.the-variants.{Accepted, Refused}
@@ -39,6 +41,8 @@ number-of Threshold = 12
 number-of SizeLimit = 13
 number-of SurveyLength = 14
 number-of OutputLength = 15
+number-of KindCount = 16
+number-of BookLimit = 17
 
 -- 0 where there is nothing to refuse
 abbrev pub checked-number : Checked → ℕ
@@ -54,8 +58,8 @@ or-else (Refused r) c = Refused r
 unfoldable pub first-of : ℕ → ℕ → ℕ
 first-of a b = cond (eqb a 0) b a
 
--- THE NUMBERS of the paper are 1 to 15
-pub number-range : (r : Refusal) → (0 < number-of r) × (number-of r ≤ 15)
+-- THE NUMBERS of the paper are 1 to 17
+pub number-range : (r : Refusal) → (0 < number-of r) × (number-of r ≤ 17)
 number-range DrawingLength = (lit< tt, lit≤ tt)
 number-range DeviceCount = (lit< tt, lit≤ tt)
 number-range CableCount = (lit< tt, lit≤ tt)
@@ -71,10 +75,12 @@ number-range Threshold = (lit< tt, lit≤ tt)
 number-range SizeLimit = (lit< tt, lit≤ tt)
 number-range SurveyLength = (lit< tt, lit≤ tt)
 number-range OutputLength = (lit< tt, lit≤ tt)
+number-range KindCount = (lit< tt, lit≤ tt)
+number-range BookLimit = (lit< tt, lit≤ tt)
 
 -- a refusal is told from an acceptance by its number
 pub number-positive : (r : Refusal) → 0 < number-of r
 number-positive r = number-range r .0
 
-pub number-small : (r : Refusal) → number-of r ≤ 15
+pub number-small : (r : Refusal) → number-of r ≤ 17
 number-small r = number-range r .1

@@ -19,6 +19,8 @@ pub enum Refusal {
     SizeLimit,
     SurveyLength,
     OutputLength,
+    KindCount,
+    BookLimit,
 }
 
 // What a check says: nothing to refuse, or the first reason to.
@@ -47,5 +49,7 @@ pub fn number(r: Refusal) -> u32
         Refusal::SizeLimit => 13,
         Refusal::SurveyLength => 14,
         Refusal::OutputLength => 15,
+        Refusal::KindCount => 16,
+        Refusal::BookLimit => 17,
     }
 }

@@ -132,7 +132,7 @@ use Rattle.codes.specs.LeastSearch.{
 }
 use Rattle.codes.specs.LeastSearchLaws.{least-from-test, least-to-test, rows-same-from-test}
 use Rattle.growth.specs.Catalogue.{Entry, Catalogue}
-use Rattle.growth.specs.Catalogues.{entry-eq}
+use Rattle.growth.specs.FamilyLists.{entry-eq}
 use Rattle.growth.specs.Mined.{next-records, is-frequent, mined, mined-entries}
 use Rattle.growth.specs.MinedLaws.{catalogue-mined}
 use Rattle.starred.specs.Cases.{

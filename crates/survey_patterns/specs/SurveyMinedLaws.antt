@@ -13,6 +13,7 @@ use Rattle.codes.specs.CodeOrder.{kinds-order, difference-decides}
 use Rattle.codes.specs.Greedy.{Greedy}
 use Rattle.codes.specs.ReadRows.{rows-nil}
 use Rattle.growth.specs.Catalogue.{all-bytes}
+use Rattle.growth.specs.Catalogue.{Often}
 use Rattle.growth.specs.Growth.{listed-none}
 use Rattle.growth.specs.Frequent.{Frequent}
 use Rattle.growth.specs.PlacedRecords.{alone}
@@ -21,8 +22,8 @@ use Rattle.growth.specs.ListedBy.{Chosen-places, Chosen-cells, place-in, record
 use Rattle.growth.specs.Firsts.{firsts-none, firsts-skip, firsts-apart, firsts-next, firsts-listed}
 use Rattle.growth.specs.Walking.{Ahead-of}
 use Rattle.growth.specs.Sizes.{candidates-size}
-use Rattle.growing.specs.declared.grow.Growth.{Growth}
-use Rattle.growing.specs.declared.grow.Growth.the-variants.{To, Full}
+use Rattle.entries.specs.declared.output.Growth.{Growth}
+use Rattle.entries.specs.declared.output.Growth.the-variants.{To, Full}
 use Rattle.growing.specs.declared.grow.Settings.{Settings}
 use Rattle.walks.specs.LabelMarks.{drawings-of}
 use Rattle.walks.specs.Counts.{Blank}
@@ -140,7 +141,7 @@ module _ {survey labels rank alphabet : List ℕ} {g : Settings} (a : Can-mine s
           }
 
       -- what is listed stands ahead of the codes that begin with this kind
-      ahead : Ahead-of kinds-before kinds-order (drawings-of survey) (g .threshold) (g .limit) (w .codes) []
+      ahead : Ahead-of kinds-before kinds-order (Often (drawings-of survey) (g .threshold)) (g .limit) (w .codes) []
           (records-at (alone k) alphabet (g .labels) (map place-in (part 0 top list₃)))
       ahead =
           record {

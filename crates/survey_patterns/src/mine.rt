@@ -2,8 +2,8 @@
 use candidates::choose::CANDIDATES;
 use candidates::choose::choose;
 use embeddings::rows::KEPT;
+use entries::output::Growth;
 use first_records::firsts::count_firsts;
-use growing::grow::Growth;
 use growing::grow::Settings;
 use growing::grow::walk;
 use label_ranks::kinds::KINDS;

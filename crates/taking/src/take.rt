@@ -1,5 +1,5 @@
 // Taking a candidate up: its code is tested, and the entry of one that is the least is written behind those before it.
-use candidates::entry::put_entry;
+use entries::entry::put_entry;
 use least_grown::grown::least_grown;
 use marking::cells::ONE_MORE;
 use records::code::Code;

@@ -144,7 +144,7 @@ pub fn same(first: &[u8], second: &[u8]) -> Answer {
     }
 }
 
-/// Of the entries that the whole answer has, or why there is none.
+/// Of the entries that the whole answer has, or why there is none; the book's are answered so too.
 pub fn catalogue(entries: &Result<Vec<Entry>, Refused>, lent: &[u8]) -> Answer {
     match entries {
         Err(refused) => Answer::refused(*refused, of_survey(refused), lent),

@@ -3,6 +3,7 @@
 //! to find each of them out at some call.
 use holvreiz::raw;
 use holvreiz_differential::answers::{self, Answer};
+use holvreiz_differential::book;
 use holvreiz_differential::catalogue::{Codes, ENTRY};
 use holvreiz_differential::lone;
 use holvreiz_differential::random::Random;
@@ -97,20 +98,26 @@ impl Calls {
             guards(&before),
             "{call} of {first:?}, {second:?}, {settings:?} wrote outside its output"
         );
-        self.spoil(&given, &expected, number, output);
+        self.spoil(
+            &given,
+            &expected,
+            number,
+            (output, &before[GUARD..][..room]),
+        );
         *self.seen.entry((call, outcome)).or_default() += 1;
     }
 
-    /// Each shim of this call that is not found out yet, on a copy of what came back.
-    fn spoil(&mut self, given: &Given, expected: &Answer, number: u64, output: &[u8]) {
+    /// Each shim of this call that is not found out yet, on a copy of what came back. The lent bytes are given as they are and were.
+    fn spoil(&mut self, given: &Given, expected: &Answer, number: u64, lent: (&[u8], &[u8])) {
         for (shim, (call, _, spoil)) in SHIMS.iter().enumerate() {
             if *call != given.call || self.found.contains(&shim) {
                 continue;
             }
-            let (mut returned, mut output) = (number, output.to_vec());
+            let (mut returned, mut output) = (number, lent.0.to_vec());
             let came = &mut Came {
                 returned: &mut returned,
                 output: &mut output,
+                lent: lent.1,
             };
             spoil(given, came);
             if wrong(expected, returned, &output).is_some() {
@@ -125,7 +132,7 @@ impl Calls {
             call: "code",
             first: drawing,
             second: &[],
-            settings: (0, 0),
+            settings: &[],
         };
         self.hold(given, room, expect, |output| raw::code(drawing, output));
     }
@@ -136,7 +143,7 @@ impl Calls {
             call: "decode",
             first: bytes,
             second: &[],
-            settings: (0, 0),
+            settings: &[],
         };
         self.hold(given, room, expect, |output| raw::decode(bytes, output));
     }
@@ -147,7 +154,7 @@ impl Calls {
             call: "is_least",
             first: bytes,
             second: &[],
-            settings: (0, 0),
+            settings: &[],
         };
         self.hold(given, 0, expect, |_| raw::is_least(bytes));
     }
@@ -158,7 +165,7 @@ impl Calls {
             call: "compare",
             first: first,
             second: second,
-            settings: (0, 0),
+            settings: &[],
         };
         self.hold(given, 0, expect, |_| raw::compare(first, second));
     }
@@ -169,7 +176,7 @@ impl Calls {
             call: "match",
             first: pattern,
             second: drawing,
-            settings: (0, 0),
+            settings: &[],
         };
         self.hold(given, room, expect, |output| {
             raw::match_drawing(pattern, drawing, output)
@@ -182,7 +189,7 @@ impl Calls {
             call: "same",
             first: first,
             second: second,
-            settings: (0, 0),
+            settings: &[],
         };
         self.hold(given, 0, expect, |_| raw::same(first, second));
     }
@@ -202,10 +209,26 @@ impl Calls {
             call: "catalogue",
             first: survey,
             second: &[],
-            settings: (threshold, limit),
+            settings: &[threshold, limit],
         };
         self.hold(given, room, expect, |output| {
             raw::catalogue(survey, threshold, limit, output)
         });
+    }
+
+    /// The book, once for each of so many bytes lent as `rooms` makes of those that the entries need.
+    pub fn book(&mut self, settings: [u32; 3], rooms: impl Fn(usize) -> Vec<usize>) {
+        let [a, b, limit] = settings;
+        let entries = book::of_settings(a, b, limit);
+        for room in rooms(entries.as_ref().map_or(2, Vec::len) * ENTRY) {
+            let expect = |lent: &[u8]| answers::catalogue(&entries, lent);
+            let given = Given {
+                call: "book",
+                first: &[],
+                second: &[],
+                settings: &settings,
+            };
+            self.hold(given, room, expect, |output| raw::book(a, b, limit, output));
+        }
     }
 }

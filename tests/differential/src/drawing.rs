@@ -87,7 +87,7 @@ impl Drawing {
     }
 
     /// Components are merged cable by cable; connected is what ends as one.
-    fn is_connected(&self) -> bool {
+    pub fn is_connected(&self) -> bool {
         let mut component: Vec<usize> = (0..self.devices()).collect();
         for cable in &self.cables {
             let (kept, merged) = (component[cable.a], component[cable.b]);

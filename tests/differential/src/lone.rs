@@ -28,7 +28,7 @@ pub fn near(call: &str, first: &[u8], second: &[u8], answer: &Answer) -> &'stati
     let at_fault = if answer.said == SECOND { second } else { first };
     let two = |is_lone: fn(&[u8]) -> bool| of_two(is_lone(first), is_lone(second), second);
     match (call, refused.number) {
-        (_, 1 | 9 | 12 | 13 | 14) => NONE,
+        (_, 1 | 9 | 12 | 13 | 14) | ("book", _) => NONE,
         ("check_code" | "decode" | "is_least" | "compare", 0) => two(is_lone_code),
         ("check_code" | "decode" | "is_least" | "compare", _) => of_record(at_fault, refused.at),
         ("check_survey" | "catalogue" | "write_catalogue" | "usual_catalogue", 0 | 15) => {

@@ -341,6 +341,46 @@ mod surveys {
     }
 }
 
+mod books {
+    use super::*;
+
+    /// Permitted, and out of range by a little, by a lot, and where only the low bits are looked at.
+    const NUMBERS: [u32; 11] = [1, 2, 3, 0, 4, 5, 255, 256, 257, 65_537, u32::MAX];
+
+    fn settings(numbers: &[u32]) -> Vec<[u32; 3]> {
+        let pairs = numbers
+            .iter()
+            .flat_map(|&a| numbers.iter().map(move |&b| (a, b)));
+        let with_limit = |(a, b)| numbers.iter().map(move |&limit| [a, b, limit]);
+        pairs.flat_map(with_limit).collect()
+    }
+
+    /// All there are: with just enough bytes, with more, one byte short, an entry short, and with none.
+    pub fn accepted(calls: &mut Calls) {
+        for settings in settings(&NUMBERS[..3]) {
+            calls.book(settings, |needed| {
+                vec![
+                    needed,
+                    needed + 1,
+                    needed + 50,
+                    needed - 1,
+                    needed - ENTRY,
+                    0,
+                ]
+            });
+        }
+    }
+
+    /// One setting out of range, two, and all three, with any room.
+    pub fn refused(calls: &mut Calls) {
+        for settings in settings(&NUMBERS) {
+            if settings.iter().any(|number| !(1..=3).contains(number)) {
+                calls.book(settings, |_| vec![0, 1, ENTRY - 1, ENTRY, 5 * ENTRY]);
+            }
+        }
+    }
+}
+
 const OF_A_DRAWING: &[u8] = &[1, 2, 3, 4, 5, 6, 7, 8];
 const OF_A_CODE: &[u8] = &[9, 10, 11];
 const OF_THE_OUTPUT: &[u8] = &[15];
@@ -358,6 +398,7 @@ fn outcomes() -> Vec<(&'static str, String)> {
     answers("match", &["map", "not contained"]);
     answers("same", &["yes", "no"]);
     answers("catalogue", &["entries", "no entry"]);
+    answers("book", &["entries"]);
 
     let mut refusals = |call: &'static str, numbers: &[u8], whose: &str| {
         outcomes.extend(numbers.iter().map(|&number| (call, refused(number, whose))));
@@ -379,6 +420,8 @@ fn outcomes() -> Vec<(&'static str, String)> {
         refusals("catalogue", &[12, 13, 14], FIRST);
         refusals("catalogue", OF_THE_OUTPUT, FIRST);
     }
+    refusals("book", &[16, 17], FIRST);
+    refusals("book", OF_THE_OUTPUT, FIRST);
     outcomes.extend(lone_outcomes());
     outcomes
 }
@@ -487,6 +530,8 @@ fn main() -> ExitCode {
     for &seed in seeds {
         run(&mut calls, seed);
     }
+    books::accepted(&mut calls);
+    books::refused(&mut calls);
 
     let missing = report(&calls);
     let unnoticed = calls.unnoticed();

@@ -1,19 +1,23 @@
 //! Tests of the tests: libraries that each spoil one kind of answer, in one byte, a count, a refusal or its drawing. A shim takes what the
 //! library returned and wrote, and changes it where its kind of answer is given; the comparison has to notice every one of them.
+use crate::book;
+use crate::catalogue;
 use crate::drawing::RECORD;
 
-/// A call with what it was given. Of two drawings or codes `first` is the first; a catalogue has its settings in `settings`.
+/// A call with what it was given. Of two drawings or codes `first` is the first; `settings` are the threshold and the size limit of a
+/// catalogue, the kinds of devices, the kinds of cables and the size limit of a book.
 pub struct Given<'a> {
     pub call: &'static str,
     pub first: &'a [u8],
     pub second: &'a [u8],
-    pub settings: (u32, u32),
+    pub settings: &'a [u32],
 }
 
-/// What came back: the number returned and the lent bytes.
+/// What came back: the number returned, the lent bytes, and what these held before.
 pub struct Came<'a> {
     pub returned: &'a mut u64,
     pub output: &'a mut [u8],
+    pub lent: &'a [u8],
 }
 
 impl Came<'_> {
@@ -35,6 +39,35 @@ impl Came<'_> {
 
     fn set_refusal(&mut self, number: u8) {
         *self.returned = *self.returned & !(0xff << 32) | u64::from(number) << 32;
+    }
+
+    /// The 42 bytes of each entry.
+    fn entries(&self) -> Vec<Vec<u8>> {
+        let entries = self.output.chunks(42).take(self.count());
+        entries.map(<[u8]>::to_vec).collect()
+    }
+
+    /// Answers with other entries, or with 15 where there is no room for them.
+    fn list(&mut self, entries: &[Vec<u8>]) {
+        let bytes = entries.concat();
+        self.output.copy_from_slice(self.lent);
+        match self.output.get_mut(..bytes.len()) {
+            Some(front) => {
+                front.copy_from_slice(&bytes);
+                *self.returned = entries.len() as u64;
+            }
+            None => {
+                self.output.fill(0);
+                *self.returned = 15 << 32;
+            }
+        }
+    }
+
+    /// Answers with the book of other settings.
+    fn list_book(&mut self, a: u32, b: u32, limit: u32) {
+        let bytes = catalogue::bytes(&book::entries(a as u8, b as u8, limit as usize));
+        let entries: Vec<Vec<u8>> = bytes.chunks(42).map(<[u8]>::to_vec).collect();
+        self.list(&entries);
     }
 
     /// Changes the byte at a place of the output, if it is there.
@@ -403,7 +436,7 @@ pub const SHIMS: &[(&str, &str, Spoil)] = &[
         },
     ),
     ("catalogue", "13 told before 12", |given, came| {
-        if came.refusal() == 12 && !(1..=8).contains(&given.settings.1) {
+        if came.refusal() == 12 && !(1..=8).contains(&given.settings[1]) {
             came.set_refusal(13);
         }
     }),
@@ -411,7 +444,7 @@ pub const SHIMS: &[(&str, &str, Spoil)] = &[
         "catalogue",
         "a size limit of 8 taken as 7",
         |given, came| {
-            if came.answered() && given.settings.1 == 8 {
+            if came.answered() && given.settings[1] == 8 {
                 let count = came.count();
                 *came.returned -= came
                     .output
@@ -422,4 +455,57 @@ pub const SHIMS: &[(&str, &str, Spoil)] = &[
             }
         },
     ),
+    ("book", "kinds of devices up to a itself", |given, came| {
+        if let (true, &[a, b, limit]) = (came.answered(), given.settings) {
+            came.list_book(a + 1, b, limit);
+        }
+    }),
+    ("book", "a and b exchanged", |given, came| {
+        if let (true, &[a, b, limit]) = (came.answered(), given.settings) {
+            came.list_book(b, a, limit);
+        }
+    }),
+    ("book", "a pattern listed twice", |_, came| {
+        if came.answered() {
+            let mut entries = came.entries();
+            entries.extend(entries.last().cloned());
+            came.list(&entries);
+        }
+    }),
+    ("book", "triangles left out", |_, came| {
+        if came.answered() {
+            let mut entries = came.entries();
+            entries.retain(|entry| records(entry).all(|r| r[0] < r[1]));
+            came.list(&entries);
+        }
+    }),
+    ("book", "supports of 1", |_, came| {
+        came.spoil_supports(|_| true)
+    }),
+    ("book", "the last two entries exchanged", |_, came| {
+        if came.count() > 1 {
+            let mut entries = came.entries();
+            let last = entries.len() - 1;
+            entries.swap(last - 1, last);
+            came.list(&entries);
+        }
+    }),
+    ("book", "the byte behind the entries", |_, came| {
+        came.spoil_behind(42)
+    }),
+    ("book", "17 told before 16", |given, came| {
+        if came.refusal() == 16 && !(1..=3).contains(&given.settings[2]) {
+            came.set_refusal(17);
+        }
+    }),
+    ("book", "16 and 17 with the output zero", |_, came| {
+        if [16, 17].contains(&came.refusal()) {
+            came.output.fill(0);
+        }
+    }),
+    ("book", "15 with the output as it was", |_, came| {
+        if came.refusal() == 15 {
+            came.output.copy_from_slice(came.lent);
+        }
+    }),
 ];

@@ -148,17 +148,7 @@ fn surveys_that_are_refused() {
 /// The text of the other implementation's usual catalogue.
 fn usual_text(survey: &[u8]) -> String {
     let drawings = catalogue::read(survey, 2, 4).ok().expect("accepted");
-    let entries = Codes::default().catalogue(&drawings, 2, 4);
-    let mut text = String::new();
-    for entry in &entries {
-        text += &entry.support.to_string();
-        for r in &entry.code {
-            text += &format!(" {}-{}:{}.{}.{}", r.i, r.j, r.ki, r.c, r.kj);
-        }
-        text.push('\n');
-    }
-    text += &format!("{} patterns\n", entries.len());
-    text
+    catalogue::text(&Codes::default().catalogue(&drawings, 2, 4))
 }
 
 /// The example that ships.

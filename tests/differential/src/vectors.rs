@@ -1,5 +1,6 @@
 //! The calls that the program `vectors` makes, and what it has to print, both from the other implementation alone. What the
 //! paper or a published example says of a call stands with it and is asserted.
+mod book;
 mod checks;
 mod drawings;
 mod edges;
@@ -11,6 +12,7 @@ mod published;
 mod tests;
 
 use crate::answers::{self, Answer};
+use crate::book::of_settings;
 use crate::catalogue::{Codes, ENTRY};
 use crate::lone::{near, NONE};
 use std::collections::BTreeSet;
@@ -39,6 +41,8 @@ enum Call<'a> {
     MatchDrawing(&'a [u8], &'a [u8], usize),
     WriteCatalogue(&'a [u8], u16, u16, usize),
     UsualCatalogue(&'a [u8], usize),
+    /// Its first argument is the kinds of devices and of cables, as numbers of two bytes.
+    Book(&'a [u8; 4], u16, usize),
 }
 
 /// A call as the list has it.
@@ -89,6 +93,10 @@ impl<'a> Call<'a> {
                 ..lent(one(11, "write_catalogue", survey), room)
             },
             Call::UsualCatalogue(survey, room) => lent(one(12, "usual_catalogue", survey), room),
+            Call::Book(kinds, limit, room) => Parts {
+                limit,
+                ..lent(one(13, "book", kinds), room)
+            },
         }
     }
 
@@ -111,6 +119,10 @@ impl<'a> Call<'a> {
             }
             Call::UsualCatalogue(survey, _) => {
                 answers::catalogue(&codes.of_survey(survey, 2, 4), lent)
+            }
+            Call::Book(&[a_low, a_high, b_low, b_high], limit, _) => {
+                let [a, b] = [[a_low, a_high], [b_low, b_high]].map(u16::from_le_bytes);
+                answers::catalogue(&of_settings(a.into(), b.into(), limit.into()), lent)
             }
         }
     }
@@ -258,6 +270,7 @@ pub fn list() -> List {
     lone::put(&mut list);
     published::put(&mut list);
     large::put(&mut list);
+    book::put(&mut list);
     list.put_cut();
     list
 }

@@ -2,7 +2,7 @@
 use mathlib.Core.Path.{sym}
 use lib.Seq.{length-take-le}
 use borrow.Author.Needs.{needs}
-use Rattle.catalogue.specs.SurveyTextLaws.{program-text-within}
+use Rattle.printing.specs.ListTextLaws.{text-within}
 use Rattle.catalogue.proofs.print.Statement.{statement}
 use Rattle.catalogue.proofs.print.Tie as tie
 
@@ -10,10 +10,10 @@ whole-text-requires : tie.Need-whole-text-requires
 whole-text-requires c κs = search needs
 
 array-share-prefix-text : tie.Need-array-share-prefix-text
-array-share-prefix-text c = program-text-within (c .whole-text .ensures)
+array-share-prefix-text c = text-within (c .whole-text .ensures)
 
 slice-aggregate-write-all : tie.Need-slice-aggregate-write-all
-slice-aggregate-write-all c = sym (length-take-le _ _ (program-text-within (c .before .whole-text .ensures)))
+slice-aggregate-write-all c = sym (length-take-le _ _ (text-within (c .before .whole-text .ensures)))
 
 write-all-requires : tie.Need-write-all-requires
 write-all-requires c κs = search needs

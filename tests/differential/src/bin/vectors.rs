@@ -1,19 +1,34 @@
-//! Writes what the program `vectors` reads, or what it has to print: `vectors stdin`, `vectors stdout`.
-use holvreiz_differential::vectors;
+//! Writes what the program `vectors` reads, or what it has to print: `vectors stdin`, `vectors stdout`; or what the program `book` has to
+//! print: `vectors book A B LIMIT`.
+use holvreiz_differential::{book, vectors};
 use std::io::{self, Write};
 use std::process::ExitCode;
 
+/// The text of a book, if three numbers ask for it.
+fn book_text(settings: &[String]) -> Option<Vec<u8>> {
+    let numbers: Option<Vec<u32>> = settings.iter().map(|word| word.parse().ok()).collect();
+    match numbers?[..] {
+        [a, b, limit] => Some(book::text(a, b, limit).into_bytes()),
+        _ => None,
+    }
+}
+
+fn asked(words: &[String]) -> Option<Vec<u8>> {
+    match words.split_first() {
+        Some((word, [])) if word == "stdin" => Some(vectors::list().calls().to_vec()),
+        Some((word, [])) if word == "stdout" => Some(vectors::list().text().as_bytes().to_vec()),
+        Some((word, settings)) if word == "book" => book_text(settings),
+        _ => None,
+    }
+}
+
 fn main() -> ExitCode {
-    let list = vectors::list();
-    let bytes = match std::env::args().nth(1).as_deref() {
-        Some("stdin") => list.calls(),
-        Some("stdout") => list.text().as_bytes(),
-        _ => {
-            eprintln!("vectors stdin | vectors stdout");
-            return ExitCode::FAILURE;
-        }
+    let words: Vec<String> = std::env::args().skip(1).collect();
+    let Some(bytes) = asked(&words) else {
+        eprintln!("vectors stdin | vectors stdout | vectors book A B LIMIT");
+        return ExitCode::FAILURE;
     };
-    match io::stdout().write_all(bytes) {
+    match io::stdout().write_all(&bytes) {
         Ok(()) => ExitCode::SUCCESS,
         Err(_) => ExitCode::FAILURE,
     }

@@ -10,6 +10,7 @@ const OF_A_SURVEY: &[u8] = &[1, 14];
 const OF_A_CODE: &[u8] = &[9, 10, 11];
 const OF_THE_SETTINGS: &[u8] = &[12, 13];
 const OF_THE_OUTPUT: &[u8] = &[15];
+const OF_THE_BOOK: &[u8] = &[16, 17];
 
 /// A call, its answers, its refusals and those that come from a second argument or a later drawing.
 type Row = (
@@ -76,6 +77,7 @@ const ROWS: &[Row] = &[
         IN_A_SURVEY,
         LATER,
     ),
+    ("book", &["entries"], &[OF_THE_BOOK, OF_THE_OUTPUT], &[], ""),
 ];
 
 /// A call, its answers of lone devices, and what is lone.

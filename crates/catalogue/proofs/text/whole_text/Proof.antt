@@ -3,7 +3,7 @@ use mathlib.Core.Path.{_≡_}
 use Prim.Native.Nat.{_≤_}
 use lib.ListN.{length}
 use borrow.Author.Needs.{needs}
-use Rattle.catalogue.specs.SurveyTextLaws.{text-never-short, program-text}
+use Rattle.printing.specs.ListTextLaws.{text-never-short, text-whole}
 use Rattle.catalogue.proofs.text.whole_text.Statement.{statement}
 use Rattle.catalogue.proofs.text.whole_text.Tie as tie
 
@@ -22,7 +22,7 @@ returns c =
     let a = c .before .before .before .before .before .before .before .args in
     let entries : length (a .entries .now) ≡ 65520 = search needs in
     let text : 255880 ≤ length (a .text .now) = search needs in
-    program-text (rw entries at (u .ensures)) text (c .before .n .given .0 .0) (c .before .n .given .1)
+    text-whole (rw entries at (u .ensures)) text (c .before .n .given .0 .0) (c .before .n .given .1)
 
 returns-2 : tie.Need-returns-2
 returns-2 c =

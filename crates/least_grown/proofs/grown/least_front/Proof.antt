@@ -3,7 +3,8 @@ use mathlib.Core.Path.{sym}
 use native.Mathlib.Omega.{arith}
 use borrow.Author.Needs.{needs}
 use Rattle.laws.specs.Decides.{decides-true, decides-false}
-use Rattle.least_grown.specs.FrontLaws.{front-length, front-bytes-room, front-grown, front-not-least, front-least}
+use Rattle.codes.specs.CodeFronts.{front-length}
+use Rattle.least_grown.specs.FrontLaws.{front-bytes-room, front-grown, front-not-least, front-least}
 use Rattle.least_grown.proofs.grown.least_front.Statement.{statement}
 use Rattle.least_grown.proofs.grown.least_front.Tie as tie
 

@@ -1,17 +1,12 @@
 -- `mine::mine_kind` meets its contract. Assumes nothing.
 use mathlib.Core.Path.{refl}
-use Prim.Native.Nat.{_<_}
 use native.Mathlib.Omega.{arith}
 use borrow.Author.Needs.{needs}
-use Rattle.extending.specs.HeldCodeLaws.{no-records, nothing-held}
+use Rattle.extending.specs.HeldCodeLaws.{nothing-held}
+use Rattle.codes.specs.CodeFronts.{no-records}
 use Rattle.survey_patterns.specs.SurveyMinedLaws.{mine-chooses, mine-walks, kind-after}
 use Rattle.survey_patterns.proofs.mine.mine_kind.Statement.{statement}
 use Rattle.survey_patterns.proofs.mine.mine_kind.Tie as tie
-use Rattle.survey_patterns.proofs.mine.mine_kind.Reads as reads
-use Rattle.survey_patterns.proofs.mine.mine_kind.Lts as lts
-use Rattle.candidates.proofs.choose.choose.Reads as choose-reads
-use Rattle.first_records.proofs.firsts.count_firsts.Reads as count-firsts-reads
-use Rattle.growing.proofs.grow.walk.Reads as walk-reads
 
 count-firsts-requires : tie.Need-count-firsts-requires
 count-firsts-requires c κs = search needs

@@ -1,34 +1,20 @@
 -- `take::take_up` meets its contract. Assumes nothing.
-use mathlib.Core.Path.{_≡_, refl}
-use mathlib.Core.Bool.{Bool, true, false, not, true≢false, false≢true}
-use Prim.Native.Nat.{_*_, _^_, _≤_, _<_}
+use mathlib.Core.Path.{refl}
+use Prim.Native.Nat.{_^_, _<_}
 use native.Mathlib.Omega.{arith}
 use lib.ListN.{length}
 use borrow.Author.Needs.{needs}
+use borrow.Author.Tests.{not-true, not-false}
 use Rattle.taking.proofs.take.take_up.Statement.{statement}
 use Rattle.taking.proofs.take.take_up.Tie as tie
-use Rattle.taking.proofs.take.take_up.Reads as reads
-use Rattle.taking.proofs.take.take_up.Lts as lts
-use Rattle.least_grown.proofs.grown.least_grown.Reads as least-grown-reads
-use Rattle.candidates.proofs.entry.put_entry.Reads as put-entry-reads
-use Rattle.records.proofs.entry.Entry.new.Reads as new-reads
 
 least-grown-requires : tie.Need-least-grown-requires
 least-grown-requires c κs = search needs
 
--- what is denied is not so, and what is not denied is
-denied : (b : Bool) → not b ≡ true → b ≡ false
-denied true e = absurd (false≢true e)
-denied false e = refl
-
-allowed : (b : Bool) → not b ≡ false → b ≡ true
-allowed true e = refl
-allowed false e = absurd (true≢false e)
-
 returns : tie.Need-returns
 returns c =
     let v = c .before .least-grown in
-    record { not-least = v .ensures .fails (denied (v .result) (c .if1 .taken)); same = refl }
+    record { not-least = v .ensures .fails (not-true _ (c .if1 .taken)); same = refl }
 
 mul-if2 : tie.Need-mul-if2
 mul-if2 c = search needs
@@ -39,7 +25,7 @@ sub-if2 c = search needs
 returns-2 : tie.Need-returns-2
 returns-2 c =
     let v = c .before .before .least-grown in
-    record { least = v .ensures .holds (allowed (v .result) (c .before .if1 .left)); short = omega (arith, c .if2 .taken); same = refl }
+    record { least = v .ensures .holds (not-false _ (c .before .if1 .left)); short = omega (arith, c .if2 .taken); same = refl }
 
 new-requires : tie.Need-new-requires
 new-requires c κs = search needs
@@ -60,7 +46,7 @@ returns-3 c =
     let full = c .before .before .before .before .before in
     let v = full .before .before .least-grown in
     record {
-      least = v .ensures .holds (allowed (v .result) (full .before .if1 .left));
+      least = v .ensures .holds (not-false _ (full .before .if1 .left));
       room = omega (arith, full .if2 .left, full .before .before .before .before .pre .out-room);
       low = omega (arith, full .if2 .left, slice-low c);
       is = rw (c .before .before .before .before .new .ensures) at (c .before .before .put-entry .ensures);

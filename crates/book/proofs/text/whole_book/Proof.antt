@@ -1,0 +1,36 @@
+-- `text::whole_book` meets its contract: the lent bytes have room for every text. Assumes nothing.
+use mathlib.Core.Path.{_≡_}
+use Prim.Native.Nat.{_≤_}
+use lib.ListN.{length}
+use borrow.Author.Needs.{needs}
+use Rattle.printing.specs.ListTextLaws.{text-never-short, text-whole}
+use Rattle.book.proofs.text.whole_book.Statement.{statement}
+use Rattle.book.proofs.text.whole_book.Tie as tie
+
+book-text-requires : tie.Need-book-text-requires
+book-text-requires c κs = search needs
+
+enum-known-n : tie.Need-enum-known-n
+enum-known-n c = search needs
+
+enum-told : tie.Need-enum-told
+enum-told c = search needs
+
+returns : tie.Need-returns
+returns c =
+    let u = c .before .before .before .book-text in
+    let a = c .before .before .before .before .before .before .args in
+    let entries : length (a .entries .now) ≡ 81774 = search needs in
+    let text : 319348 ≤ length (a .text .now) = search needs in
+    text-whole (rw entries at (u .ensures)) text (c .before .n .given .0 .0) (c .before .n .given .1)
+
+returns-2 : tie.Need-returns-2
+returns-2 c =
+    let u = c .before .before .book-text in
+    let a = c .before .before .before .before .before .args in
+    let entries : length (a .entries .now) ≡ 81774 = search needs in
+    let text : 319348 ≤ length (a .text .now) = search needs in
+    absurd (text-never-short (rw entries at (u .ensures)) text (c .enum-told .given .1))
+
+pub whole-book-spec : {M : Type 1} → statement M
+whole-book-spec = tie.close (tie.spec book-text-requires enum-known-n enum-told returns returns-2)

@@ -1,0 +1,6 @@
+-- Definitions.
+pub mod Requests
+pub mod BookText
+-- Laws over them.
+pub mod RequestLaws
+pub mod BookTextLaws

@@ -1,0 +1,1 @@
+// Theory only: the book of all small patterns. No program code.

@@ -1,0 +1,5 @@
+-- Definitions.
+pub mod ListOutcomes
+pub mod Written
+-- Laws over them.
+pub mod WrittenLaws

@@ -1,0 +1,4 @@
+-- Definitions.
+pub mod BookSays
+-- Laws over them.
+pub mod BookWritten

@@ -1,0 +1,2 @@
+// The book of all small patterns.
+pub mod book; // book.rt: the book written as entries

@@ -63,9 +63,9 @@ survey-empty bs s l n o z bare says = go n refl
     go zero e = e
     go (suc m) e =
         let first : 0 < n = omega arith in
-        let t = whole .sound 0 first in
+        let t = whole .list .sound 0 first in
         let f = whole .frequent (t .0) (t .1) 0 first (t .2) in
-        let q = whole .least (t .0) (t .1) 0 first (t .2) .1 in
+        let q = whole .support (t .0) (t .1) 0 first (t .2) in
         absurd (omega (arith, one, f .2, no-mark (t .0) (survey bs) (entry-in 0 z .support) (f .0) bare q))
 
 -- A DRAWING WITHOUT CABLES MORE changes no support, so it changes no catalogue

@@ -201,25 +201,16 @@ entry-in k z = entry-of (row 42 k z)
 abbrev pub Entry-for : (p : Drawing) → (output : List ℕ) → (k : ℕ) → Type 0
 Entry-for p z k = Section-code p (entry-in k z .code)
 
--- A WHOLE CATALOGUE of n entries in the lent bytes z, which were o before the call. A section is a simple graph of 1 to 10 devices and
--- at most 20 cables in which a walk joins every two devices (`Section`); a pattern is one of 1 to l cables.
-pub record Whole-catalogue (bs : List ℕ) (s l n : ℕ) (o z : List ℕ) : Type 0 where
-  -- a section of 1 to l cables that at least s drawings contain has an entry
-  pub there :
-      (p : Drawing) → Section p → 1 ≤ length (p .cables) → length (p .cables) ≤ l → (m : ℕ) → Supported p (survey bs) m → s ≤ m
-      → (k : ℕ) × (k < n) × Entry-for p z k
-  -- and no other has, so none without a cable
-  pub frequent :
-      (p : Drawing) → Section p → (k : ℕ) → k < n → Entry-for p z k
-      → (1 ≤ length (p .cables)) × (length (p .cables) ≤ l) × (s ≤ entry-in k z .support)
-  -- no more than one
-  pub once : (p : Drawing) → Section p → (j k : ℕ) → j < n → k < n → Entry-for p z j → Entry-for p z k → j ≡ k
-  -- with its least code and its support
-  pub least :
-      (p : Drawing) → Section p → (k : ℕ) → k < n → Entry-for p z k
-      → Least-section p (entry-in k z .code) × Supported p (survey bs) (entry-in k z .support)
+-- A WHOLE LIST of n entries in the lent bytes z, which were o before the call, whichever patterns it is of. A section is a simple graph of 1 to
+-- 10 devices and at most 20 cables in which a walk joins every two devices (`Section`); a pattern is one with a cable or more. Patterns are taken
+-- up to a map, as in demand 3, since an entry is one for each section that its records are a code of.
+pub record Whole-list (n : ℕ) (o z : List ℕ) : Type 0 where
   -- there is no entry that is one for no section
   pub sound : (k : ℕ) → k < n → (p : Drawing) × Section p × Entry-for p z k
+  -- a section has no more than one
+  pub once : (p : Drawing) → Section p → (j k : ℕ) → j < n → k < n → Entry-for p z j → Entry-for p z k → j ≡ k
+  -- with its least code
+  pub least : (p : Drawing) → Section p → (k : ℕ) → k < n → Entry-for p z k → Least-section p (entry-in k z .code)
   -- codes rise
   pub rise : (j k : ℕ) → j < k → k < n → before (entry-in j z .code) (entry-in k z .code) ≡ true
   -- the bytes are those of the entries, and what they were past the last one
@@ -228,26 +219,28 @@ pub record Whole-catalogue (bs : List ℕ) (s l n : ℕ) (o z : List ℕ) : Type
   pub size : length z ≡ length o
   pub kept : drop (42 * n) z ≡ drop (42 * n) o
 
--- A WHOLE BOOK of n entries in the lent bytes z, which were o before the call: patterns are taken up to a map, as in demand 3, since an entry is
--- one for each pattern that its records are a code of
+-- A WHOLE CATALOGUE
+pub record Whole-catalogue (bs : List ℕ) (s l n : ℕ) (o z : List ℕ) : Type 0 where
+  pub list : Whole-list n o z
+  -- a section of 1 to l cables that at least s drawings contain has an entry
+  pub there :
+      (p : Drawing) → Section p → 1 ≤ length (p .cables) → length (p .cables) ≤ l → (m : ℕ) → Supported p (survey bs) m → s ≤ m
+      → (k : ℕ) × (k < n) × Entry-for p z k
+  -- and no other has, so none without a cable
+  pub frequent :
+      (p : Drawing) → Section p → (k : ℕ) → k < n → Entry-for p z k
+      → (1 ≤ length (p .cables)) × (length (p .cables) ≤ l) × (s ≤ entry-in k z .support)
+  -- with its support
+  pub support : (p : Drawing) → Section p → (k : ℕ) → k < n → Entry-for p z k → Supported p (survey bs) (entry-in k z .support)
+
+-- A WHOLE BOOK
 pub record Whole-book (a b l n : ℕ) (o z : List ℕ) : Type 0 where
+  pub list : Whole-list n o z
   -- a section of 1 to l cables, its device kinds below a and its cable kinds below b, has an entry
   pub there :
       (p : Drawing) → Section p → 1 ≤ length (p .cables) → length (p .cables) ≤ l → Small a b p → (k : ℕ) × (k < n) × Entry-for p z k
   -- and no other has
   pub small :
       (p : Drawing) → Section p → (k : ℕ) → k < n → Entry-for p z k → (1 ≤ length (p .cables)) × (length (p .cables) ≤ l) × Small a b p
-  -- no more than one
-  pub once : (p : Drawing) → Section p → (j k : ℕ) → j < n → k < n → Entry-for p z j → Entry-for p z k → j ≡ k
-  -- with its least code and support 0
-  pub least :
-      (p : Drawing) → Section p → (k : ℕ) → k < n → Entry-for p z k → Least-section p (entry-in k z .code) × (entry-in k z .support ≡ 0)
-  -- there is no entry that is one for no section
-  pub sound : (k : ℕ) → k < n → (p : Drawing) × Section p × Entry-for p z k
-  -- codes rise
-  pub rise : (j k : ℕ) → j < k → k < n → before (entry-in j z .code) (entry-in k z .code) ≡ true
-  -- the bytes are those of the entries, and what they were past the last one
-  pub bytes : (k : ℕ) → k < n → row 42 k z ≡ entry-bytes (entry-in k z)
-  pub room : 42 * n ≤ length z
-  pub size : length z ≡ length o
-  pub kept : drop (42 * n) z ≡ drop (42 * n) o
+  -- with support 0
+  pub support : (k : ℕ) → k < n → entry-in k z .support ≡ 0

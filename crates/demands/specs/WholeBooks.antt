@@ -2,33 +2,18 @@
 -- and from nothing else. Rests on WholeLists. Assumes nothing.
 use mathlib.Core.Path.{_≡_}
 use mathlib.Core.List.{List}
-use Prim.Native.Nat.{ℕ, _≤_}
+use Prim.Native.Nat.{ℕ, _≤_, _<_}
 use native.Mathlib.Omega.{arith}
+use Rattle.graphs.specs.Drawing.{Drawing}
+use Rattle.graphs.specs.Graph.{Section}
 use Rattle.graphs.specs.Survey as surveys
-use Rattle.graphs.specs.Sections.{section-pattern}
-use Rattle.codes.specs.Code.{kinds-before}
-use Rattle.codes.specs.SectionCodes.{least-pattern}
 use Rattle.books.specs.Book.{Small, unsupported, book-refusal}
 use Rattle.books.specs.BookSettings.{settings-fit}
 use Rattle.books.specs.SmallFamily.{small-closed, unsupported-kept}
 use Rattle.records.specs.declared.catalogued.Catalogued.the-variants.{Entries}
 use Rattle.pattern_book.specs.BookSays.{Book-says}
-use Rattle.demands.specs.Terms.{Whole-book}
-use Rattle.demands.specs.WholeLists.{
-  list-accepted,
-  Finished,
-  finished,
-  whole-pattern,
-  whole-says,
-  whole-rise,
-  whole-there,
-  whole-once,
-  whole-sound,
-  whole-bytes,
-  whole-size,
-  whole-room,
-  whole-kept,
-}
+use Rattle.demands.specs.Terms.{entry-in, Entry-for, Whole-list, Whole-book}
+use Rattle.demands.specs.WholeLists.{Entry-says, list-accepted, Finished, finished, whole-says, whole-there, whole-list}
 
 -- where entries are answered, the settings are accepted
 pub book-accepted : (a b l n : ℕ) (o z : List ℕ) → Book-says a b l (Entries n) o z → book-refusal a b l ≡ 0
@@ -36,25 +21,19 @@ unfolding surveys.refusal
 book-accepted a b l n o z = list-accepted (Small a b) unsupported l (surveys.refusal (book-refusal a b l) 0) n o z
 
 module _ (a b l n : ℕ) (o z : List ℕ) (high : l ≤ 8) (f : Finished (Small a b) unsupported l n o z) where
+  list : Whole-list n o z
+  list = whole-list (Small a b) unsupported l (small-closed a b) unsupported-kept high f
+
+  says : (p : Drawing) → Section p → (k : ℕ) → k < n → Entry-for p z k → Entry-says (Small a b) unsupported l (entry-in k z) p
+  says = whole-says (Small a b) unsupported l (small-closed a b) unsupported-kept high f
+
   demanded : Whole-book a b l n o z
   demanded =
       record {
-        there = λ p i some h s. whole-there (Small a b) unsupported l (small-closed a b) unsupported-kept high f p (section-pattern i some) h s;
-        small = λ p i k h c.
-            let w = whole-pattern (Small a b) unsupported l (small-closed a b) unsupported-kept high f p i k h c in
-            let t = whole-says (Small a b) unsupported l (small-closed a b) unsupported-kept high f p w k h c in
-            (w .cables-low, t .size, t .wanted);
-        once = whole-once (Small a b) unsupported l (small-closed a b) unsupported-kept high f;
-        least = λ p i k h c.
-            let w = whole-pattern (Small a b) unsupported l (small-closed a b) unsupported-kept high f p i k h c in
-            let t = whole-says (Small a b) unsupported l (small-closed a b) unsupported-kept high f p w k h c in
-            (least-pattern kinds-before w (t .least), t .support-is);
-        sound = whole-sound (Small a b) unsupported l (small-closed a b) unsupported-kept high f;
-        rise = whole-rise (Small a b) unsupported l (small-closed a b) unsupported-kept high f;
-        bytes = whole-bytes (Small a b) unsupported l (small-closed a b) unsupported-kept high f;
-        room = whole-room (Small a b) unsupported l (small-closed a b) unsupported-kept high f;
-        size = whole-size (Small a b) unsupported l (small-closed a b) unsupported-kept high f;
-        kept = whole-kept (Small a b) unsupported l (small-closed a b) unsupported-kept high f;
+        list = list;
+        there = λ p i some h s. whole-there (Small a b) unsupported l (small-closed a b) unsupported-kept high f p i some h (λ w. s);
+        small = λ p i k h c. let t = says p i k h c in (t .pattern .cables-low, t .size, t .wanted);
+        support = λ k h. let e = list .sound k h in says (e .0) (e .1) k h (e .2) .support-is;
       }
 
 -- ONE THEOREM: a book that the call says to have n entries is whole

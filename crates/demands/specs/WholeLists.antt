@@ -15,11 +15,11 @@ use Rattle.laws.specs.Tests.{Three, less, same, more, compare-numbers, true-and
 use Rattle.laws.specs.Lists.{Mem, mem-at, place}
 use Rattle.laws.specs.Rising.{Rises, rises-head, rises-tail}
 use Rattle.laws.specs.Rows.{row}
-use Rattle.graphs.specs.Drawing.{Drawing, is-pattern}
+use Rattle.graphs.specs.Drawing.{Drawing}
 use Rattle.graphs.specs.Map.{Same}
 use Rattle.graphs.specs.Survey as surveys
 use Rattle.graphs.specs.Graph.{Simple, Section, Pattern, lone-drawing}
-use Rattle.graphs.specs.Sections.{pattern-section, lone-or-pattern}
+use Rattle.graphs.specs.Sections.{pattern-section, lone-or-pattern, section-pattern}
 use Rattle.graphs.specs.Patterns.{pattern-from-test, pattern-to-test}
 use Rattle.graphs.specs.Containment.{contains-from-same}
 use Rattle.codes.specs.Code.{Rec, Code-of, Least, before, kinds-before}
@@ -29,7 +29,7 @@ use Rattle.codes.specs.LeastCode.{least-code-there}
 use Rattle.codes.specs.CodesTell.{code-along, code-makes-same}
 use Rattle.codes.specs.ReadRows.{good-from-test}
 use Rattle.codes.specs.SectionCode.{lone-code, lone-row, Section-code}
-use Rattle.codes.specs.SectionCodes.{rows-not-lone, lone-code-row, lone-only, cabled-code, pattern-code}
+use Rattle.codes.specs.SectionCodes.{rows-not-lone, lone-code-row, lone-only, cabled-code, pattern-code, least-pattern}
 use Rattle.growth.specs.Catalogue.{Entry, entry, Entry-of, List-of, entry-bytes, all-bytes}
 use Rattle.growth.specs.Family.{Closed, Kept-by-maps}
 use Rattle.records.specs.declared.refusal.Refusal.{Refusal}
@@ -41,7 +41,7 @@ use Rattle.records.specs.declared.catalogued.Catalogued.the-variants.{Entries, 
 use Rattle.records.specs.Catalogued.{catalogued-count, catalogued-refusal}
 use Rattle.entries.specs.Written.{Entries-written, List-as, List-says}
 use Rattle.entries.specs.WrittenLaws.{all-bytes-length}
-use Rattle.demands.specs.Terms.{entry-in, Entry-for}
+use Rattle.demands.specs.Terms.{entry-in, Entry-for, Whole-list}
 use Rattle.demands.specs.ReadEntries.{bytes-at, entry-at}
 
 -- each element of a rising list comes before those further on
@@ -63,8 +63,9 @@ unfolding surveys.refusal
 refused-number r d = refl
 
 module _ (Wanted : Drawing → Type 0) (figure : Drawing → ℕ) (l : ℕ) where
-  -- WHAT AN ENTRY SAYS of any pattern that it is one for
+  -- WHAT AN ENTRY SAYS of any section that it is one for
   pub record Entry-says (e : Entry) (p : Drawing) : Type 0 where
+    pub pattern : Pattern p
     pub size : length (p .cables) ≤ l
     pub wanted : Wanted p
     pub least : Least p (e .code)
@@ -108,12 +109,12 @@ module _ (Wanted : Drawing → Type 0) (figure : Drawing → ℕ) (l : ℕ) wher
       go (suc m) e (r, w) = absurd (omega (arith, sym (entries-number n) ∙ ap (λ (f : surveys.Refusal). f .number) r ∙ e))
 
   module _ (closed : Closed Wanted) (kept-by : Kept-by-maps figure) where
-    entry-says : (e : Entry) → Entry-of kinds-before Wanted figure l e → (p : Drawing) → is-pattern p ≡ true → Code-of p (e .code) → Entry-says e p
-    entry-says e f p k c =
+    entry-says : (e : Entry) → Entry-of kinds-before Wanted figure l e → (p : Drawing) → Pattern p → Code-of p (e .code) → Entry-says e p
+    entry-says e f p i c =
         record {
+          pattern = i;
           size = omega (arith, f .size, coded-length p simple (e .code) (coded-from-test p simple (e .code) c));
-          wanted = closed p q (pattern-from-test p k) (pattern-from-test q (f .is-one))
-              (contains-from-same p q (simple .ends) (plain .ends) alike) (f .wanted);
+          wanted = closed p q i (pattern-from-test q (f .is-one)) (contains-from-same p q (simple .ends) (plain .ends) alike) (f .wanted);
           least = record { code = c; least = λ ss g. f .least .least ss (code-along p q simple plain ss alike g) };
           support-is = sym (kept-by p q (simple .ends) (plain .ends) alike ∙ f .support-is);
         }
@@ -122,7 +123,7 @@ module _ (Wanted : Drawing → Type 0) (figure : Drawing → ℕ) (l : ℕ) wher
         q = f .pattern
 
         simple : Simple p
-        simple = pattern-from-test p k .simple
+        simple = i .simple
 
         plain : Simple q
         plain = pattern-from-test q (f .is-one) .simple
@@ -151,8 +152,8 @@ module _ (Wanted : Drawing → Type 0) (figure : Drawing → ℕ) (l : ℕ) wher
       entry-wanted k h = f .list .sound (entry-in k z) (rw (is-entry k h) (mem-at none (f .es) k (omega (arith, f .count))))
 
       -- a section that an entry is one for has a cable
-      pub whole-pattern : (p : Drawing) → Section p → (k : ℕ) → k < n → Entry-for p z k → Pattern p
-      whole-pattern p i k h c = go (lone-or-pattern p i)
+      has-cable : (p : Drawing) → Section p → (k : ℕ) → k < n → Entry-for p z k → Pattern p
+      has-cable p i k h c = go (lone-or-pattern p i)
         where
           go : ((j : ℕ) × (p ≡ lone-drawing j)) ⊎ Pattern p → Pattern p
           go (inr w) = w
@@ -162,10 +163,10 @@ module _ (Wanted : Drawing → Type 0) (figure : Drawing → ℕ) (l : ℕ) wher
               let good = good-from-test code (entry-wanted k h .least .code .good) .accepted in
               absurd (true-and-false (ap lone-row is ∙ lone-code-row j) (rows-not-lone code good))
 
-      pub whole-says : (p : Drawing) → Pattern p → (k : ℕ) → k < n → Entry-for p z k → Entry-says (entry-in k z) p
-      whole-says p i k h c = entry-says (entry-in k z) (entry-wanted k h) p (pattern-to-test p i) (pattern-code i c)
+      pub whole-says : (p : Drawing) → Section p → (k : ℕ) → k < n → Entry-for p z k → Entry-says (entry-in k z) p
+      whole-says p i k h c = let w = has-cable p i k h c in entry-says (entry-in k z) (entry-wanted k h) p w (pattern-code w c)
 
-      pub whole-rise : (j k : ℕ) → j < k → k < n → before (entry-in j z .code) (entry-in k z .code) ≡ true
+      whole-rise : (j k : ℕ) → j < k → k < n → before (entry-in j z .code) (entry-in k z .code) ≡ true
       whole-rise j k h g =
           rw (is-entry j (omega arith), is-entry k g, ← code-at j, ← code-at k)
           (rises-at before [] codes (f .list .rise) j k h (omega (arith, f .count, length-map (f .es) (λ (e : Entry). e .code))))
@@ -176,23 +177,23 @@ module _ (Wanted : Drawing → Type 0) (figure : Drawing → ℕ) (l : ℕ) wher
           code-at : (k : ℕ) → getD codes k [] ≡ getD (f .es) k none .code
           code-at k = List·getD-map (λ (e : Entry). e .code) (f .es) k none
 
-      pub whole-there : (p : Drawing) → Pattern p → length (p .cables) ≤ l → Wanted p → (k : ℕ) × (k < n) × Entry-for p z k
-      whole-there p i h g =
+      pub whole-there :
+          (p : Drawing) → Section p → 1 ≤ length (p .cables) → length (p .cables) ≤ l → (Pattern p → Wanted p)
+          → (k : ℕ) × (k < n) × Entry-for p z k
+      whole-there p s some h g =
+          let i = section-pattern s some in
           let t = least-code-there kinds-before kinds-order p i in
-          let w = place none (f .list .whole p (t .0) (pattern-to-test p i) h g (t .1)) in
+          let w = place none (f .list .whole p (t .0) (pattern-to-test p i) h (g i) (t .1)) in
           let below : w .i < n = omega (arith, w .below, f .count) in
           (w .i, below, rw (is-entry (w .i) below, w .is) (cabled-code (t .1 .code)))
 
-      pub whole-once : (p : Drawing) → Section p → (j k : ℕ) → j < n → k < n → Entry-for p z j → Entry-for p z k → j ≡ k
+      whole-once : (p : Drawing) → Section p → (j k : ℕ) → j < n → k < n → Entry-for p z j → Entry-for p z k → j ≡ k
       whole-once p s j k a b c d = go (compare-numbers j k)
         where
-          i : Pattern p
-          i = whole-pattern p s j a c
-
           same-code : entry-in j z .code ≡ entry-in k z .code
           same-code =
-              least-unique kinds-before kinds-order p (entry-in j z .code) (entry-in k z .code) (whole-says p i j a c .least)
-              (whole-says p i k b d .least)
+              least-unique kinds-before kinds-order p (entry-in j z .code) (entry-in k z .code) (whole-says p s j a c .least)
+              (whole-says p s k b d .least)
 
           apart : (j k : ℕ) → k < n → entry-in j z .code ≡ entry-in k z .code → j < k → ⊥
           apart j k h e g = before-strict kinds-before kinds-order .irrefl (entry-in k z .code) (rw e at (whole-rise j k g h))
@@ -202,16 +203,16 @@ module _ (Wanted : Drawing → Type 0) (figure : Drawing → ℕ) (l : ℕ) wher
           go (same h) = eqb-true j k h
           go (more h) = absurd (apart k j a (sym same-code) (ltb-true k j h))
 
-      pub whole-sound : (k : ℕ) → k < n → (p : Drawing) × Section p × Entry-for p z k
+      whole-sound : (k : ℕ) → k < n → (p : Drawing) × Section p × Entry-for p z k
       whole-sound k h =
           let t = entry-wanted k h in
           (t .pattern, pattern-section (pattern-from-test (t .pattern) (t .is-one)), cabled-code (t .least .code))
 
-      pub whole-bytes : (k : ℕ) → k < n → row 42 k z ≡ entry-bytes (entry-in k z)
+      whole-bytes : (k : ℕ) → k < n → row 42 k z ≡ entry-bytes (entry-in k z)
       whole-bytes k h =
           ap (row 42 k) (f .output) ∙ bytes-at (f .es) few rest none k (omega (arith, f .count)) ∙ ap entry-bytes (sym (is-entry k h))
 
-      pub whole-size : length z ≡ length o
+      whole-size : length z ≡ length o
       whole-size =
           ap length (f .output)
           ∙ omega (
@@ -223,10 +224,24 @@ module _ (Wanted : Drawing → Type 0) (figure : Drawing → ℕ) (l : ℕ) wher
             f .room,
           )
 
-      pub whole-room : 42 * n ≤ length z
+      whole-room : 42 * n ≤ length z
       whole-room = omega (arith, f .count, f .room, whole-size)
 
-      pub whole-kept : drop (42 * n) z ≡ drop (42 * n) o
+      whole-kept : drop (42 * n) z ≡ drop (42 * n) o
       whole-kept =
           ap (drop (42 * n)) (f .output) ∙ drop-at (all-bytes (f .es)) rest (42 * n) front
           ∙ ap (λ (k : ℕ). drop k o) front
+
+      -- WHOLE, whichever patterns are wanted
+      pub whole-list : Whole-list n o z
+      whole-list =
+          record {
+            sound = whole-sound;
+            once = whole-once;
+            least = λ p i k h c. let t = whole-says p i k h c in least-pattern kinds-before (t .pattern) (t .least);
+            rise = whole-rise;
+            bytes = whole-bytes;
+            room = whole-room;
+            size = whole-size;
+            kept = whole-kept;
+          }

@@ -28,7 +28,7 @@ use Rattle.growth.specs.Counted.{Extending, rows-extending, first-extending, Ca
 use Rattle.growth.specs.ListedBy.{place-in, chosen-places, chosen-rise}
 use Rattle.growth.specs.Output.{Ahead}
 use Rattle.growth.specs.Walking.{Gives, Ahead-of, ahead-fewer}
-use Rattle.growth.specs.Listings.{Lists, Lists-more}
+use Rattle.growth.specs.Listings.{Lists-more}
 use Rattle.growth.specs.ListingLaws.{none-walked, walked-ahead, walked-more, walked-past}
 use Rattle.entries.specs.declared.output.Growth.{Growth}
 use Rattle.entries.specs.declared.output.Growth.the-variants.{To, Full}

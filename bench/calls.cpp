@@ -1,4 +1,5 @@
-// Times of coding, the least test, decoding, sameness, matching and the largest book. Every answer is looked at: a wrong one ends the run.
+// Times of coding, the least test, decoding, sameness, matching, the largest book and the checks. Every answer is looked at: a wrong one ends
+// the run.
 #include "clock.hpp"
 #include "holvreiz.h"
 #include "surveys.hpp"
@@ -156,6 +157,37 @@ static void book() {
     printf("| 3, 3, 3 | %d | %.2f |\n", ENTRIES, 1e3 * time);
 }
 
+// A code's 15 comes after the check of its drawing and before the search: with nothing lent, the check is all there is.
+static double time_check(const Bytes &drawing) {
+    uint8_t nothing;
+    uint64_t returned = 0;
+    double time = bench::least_of_short([&] { returned = holvreiz_code(drawing.data(), drawing.size(), &nothing, 0); });
+    expect(holvreiz_refusal(returned) == HOLVREIZ_OUTPUT_LENGTH, "a code without room is not refused for that");
+    return time;
+}
+
+// A survey whose last drawing is not connected: all its drawings are checked, the last one too to its end, and nothing is mined.
+static double time_survey_check(Bytes survey, int last) {
+    Bytes apart = near_clique();
+    apart[0] = bench::DEVICES;
+    std::copy(apart.begin(), apart.end(), survey.begin() + last * bench::DRAWING_BYTES);
+    uint8_t nothing;
+    uint64_t returned = 0;
+    double time = bench::least_of_short([&] { returned = holvreiz_catalogue(survey.data(), survey.size(), 2, 4, &nothing, 0); });
+    bool right = holvreiz_refusal(returned) == HOLVREIZ_NOT_CONNECTED && holvreiz_drawing(returned) == (uint32_t)last;
+    expect(right, "a survey is not refused for its last drawing");
+    return time;
+}
+
+static void checks() {
+    bench::Random random(7);
+    Times drawing, survey;
+    for (int k = 0; k < DRAWINGS; k++) drawing.add(time_check(bench::drawing(random, bench::DEVICES, bench::CABLES, 3, 2)));
+    for (unsigned seed = 1; seed <= 3; seed++) survey.add(time_survey_check(bench::survey(3, seed), bench::SURVEY_DRAWINGS - 1));
+    printf("| a drawing of 10 devices and 20 cables | %.2f, %.2f |\n", drawing.mean(), drawing.most());
+    printf("| a survey of 32 such drawings | %.2f, %.2f |\n", survey.mean(), survey.most());
+}
+
 int main() {
     printf("| devices, cables | kinds, cable kinds | code | is_least | decode | same | match |\n|---|---|---|---|---|---|---|\n");
     for (const Shape &shape : SHAPES) row(shape);
@@ -168,4 +200,6 @@ int main() {
     symmetric("Petersen graph", petersen());
     printf("\n| book: a, b, limit | entries | milliseconds |\n|---|---|---|\n");
     book();
+    printf("\n| check | microseconds |\n|---|---|\n");
+    checks();
 }

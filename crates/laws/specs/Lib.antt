@@ -8,6 +8,7 @@ pub mod Lists
 pub mod Counting
 pub mod Orders
 pub mod Rows
+pub mod Grids
 pub mod Minimum
 pub mod Rising
 pub mod Selections

@@ -14,7 +14,7 @@ use lib.Seq.{getD-drop}
 use Rattle.laws.specs.Lists.{snoc, map-append}
 use Rattle.laws.specs.Rows.{row, rows, rows-length, rows-at, rows-snoc, row-at}
 use Rattle.laws.specs.Rows.{left-start, left-next, left-end}
-use Rattle.graphs.specs.Drawing.{Cable, cable-in, cables-in, joins, joined-by, cable-refusal}
+use Rattle.graphs.specs.Drawing.{Cable, cable-in, cables-in, joined-by, cable-refusal}
 use Rattle.records.specs.Refusals.{first-of}
 use Rattle.records.specs.RefusalLaws.{first-some, first-none, first-test}
 use Rattle.records.specs.DrawingCables.{cable-at, cables-before, cables-from, cable-fault, fault-at}
@@ -71,21 +71,6 @@ pub before-next : (c : ℕ) (bs : List ℕ) → cables-before (c + 1) bs ≡ sno
 unfolding cables-in cable-at
 before-next c bs = rw (add-one, rows-snoc) (map-append cable-in (rows 3 c (drop 12 bs)) (row 3 c (drop 12 bs) ∷ []))
 
--- A PAIR JOINED by one of the cables from k on
-module _ (u v m k : ℕ) (bs : List ℕ) where
-  pub joined-here : k < m → joins u v (cable-at bs k) ≡ true → joined-by u v (cables-from m k bs) ≡ true
-  unfolding joined-by
-  joined-here h e = rw (from-next m bs k h) (simp e)
-
-  pub joined-later : k < m → joins u v (cable-at bs k) ≡ false
-      → joined-by u v (cables-from m k bs) ≡ joined-by u v (cables-from m (k + 1) bs)
-  unfolding joined-by
-  joined-later h e = rw (from-next m bs k h) (simp e)
-
-  pub joined-none : m ≤ k → joined-by u v (cables-from m k bs) ≡ false
-  unfolding joined-by
-  joined-none h = rw (from-end m bs k h)
-
 -- ONE CABLE refused, or not
 module _ (n : ℕ) (es : List Cable) (c : Cable) where
   pub fault-first-end : n ≤ c .a → cable-fault n es c ≡ 4
@@ -100,10 +85,6 @@ module _ (n : ℕ) (es : List Cable) (c : Cable) where
     pub fault-loop : c .a ≡ c .b → cable-fault n es c ≡ 5
     unfolding cable-fault
     fault-loop e = simp (lt-leb _ _ p, lt-leb _ _ q, eq-eqb _ _ e)
-
-    pub fault-pair : (c .a ≡ c .b → ⊥) → joined-by (c .a) (c .b) es ≡ true → cable-fault n es c ≡ 6
-    unfolding cable-fault
-    fault-pair d e = simp (lt-leb _ _ p, lt-leb _ _ q, ne-eqb _ _ d, e)
 
     pub fault-none : (c .a ≡ c .b → ⊥) → joined-by (c .a) (c .b) es ≡ false → cable-fault n es c ≡ 0
     unfolding cable-fault
@@ -138,7 +119,7 @@ module _ (n m c : ℕ) (bs : List ℕ) where
 
 -- A CABLE OF A SOUND LIST has its ends below n
 module _ (n : ℕ) where
-  sound-split : (es cs : List Cable) (c : Cable) → cable-refusal n es (c ∷ cs) ≡ 0
+  pub sound-split : (es cs : List Cable) (c : Cable) → cable-refusal n es (c ∷ cs) ≡ 0
       → (c .a < n) × (c .b < n) × (cable-refusal n (snoc es c) cs ≡ 0)
   unfolding cable-refusal
   sound-split es cs c e =

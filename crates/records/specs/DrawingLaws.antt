@@ -44,12 +44,15 @@ module _ (d : Drawing) where
       let n = passes (leb 1 (d .devices) && leb (d .devices) 10) 2 _ (λ q. omega arith) e in
       (n .0, passes (cables-fit (d .devices) (d .cables)) 3 0 (λ q. omega arith) (n .1) .0)
 
+  pub devices-few : counts-refusal d ≡ 0 → d .devices ≤ 10
+  devices-few e = leb-true (d .devices) 10 (and-split (leb 1 (d .devices)) (leb (d .devices) 10) (fine-tests e .0) .1)
+
   pub counts-known : (bs : List ℕ) → length bs ≡ 72 → d ≡ counts-in bs → counts-refusal d ≡ 0 → Counts-within bs d
   counts-known bs whole is e =
       record {
         whole = whole;
         counts = is;
-        devices-most = leb-true (d .devices) 10 (and-split (leb 1 (d .devices)) (leb (d .devices) 10) (fine-tests e .0) .1);
+        devices-most = devices-few e;
         cables-most = fit-most (fit-from-test (d .devices) (d .cables) (fine-tests e .1));
       }
 

@@ -2,7 +2,6 @@
 use crate::bytes::byte_or_zero;
 use crate::drawing::Drawing;
 ghost use mathlib.Core.Path.{_≡_};
-ghost use Rattle.graphs.specs.Drawing.{joins};
 ghost use Rattle.records.specs.DrawingCables.{as-cable, cable-at};
 
 // One end, the other end, and the kind of the cable between them.
@@ -30,15 +29,5 @@ impl Cable {
             b: byte_or_zero(drawing, at + 1),
             kind: byte_or_zero(drawing, at + 2),
         }
-    }
-
-    // Whether it joins u and v, either way round.
-    pub fn joins(self, u: usize, v: usize) -> bool
-        ensures { λ r. ⌜ r ≡ joins u v (as-cable self) ⌝ }
-    {
-        if self.a == u && self.b == v {
-            return true;
-        }
-        self.a == v && self.b == u
     }
 }

@@ -8,6 +8,7 @@ pub mod drawing;
 pub mod generate;
 pub mod lone;
 pub mod map;
+pub mod pairs;
 pub mod random;
 pub mod refused;
 pub mod shims;

@@ -12,6 +12,7 @@ use holvreiz_differential::code;
 use holvreiz_differential::drawing::{self, Drawing, RECORD};
 use holvreiz_differential::generate::{self, Shape};
 use holvreiz_differential::lone;
+use holvreiz_differential::pairs;
 use holvreiz_differential::random::Random;
 use holvreiz_differential::shims::SHIMS;
 use std::collections::HashSet;
@@ -112,6 +113,14 @@ fn damaged_drawings(calls: &mut Calls, random: &mut Random, times: usize) {
         calls.same(other, &damaged);
         calls.match_drawing(&damaged, other, room);
         calls.match_drawing(other, &damaged, room);
+    }
+}
+
+/// A drawing as large as they get, with one of its pairs joined twice.
+fn joined_twice(calls: &mut Calls, random: &mut Random) {
+    let drawing = generate::drawing_of(random, 10, 20, 3);
+    for record in pairs::every_two_places(&drawing) {
+        calls.code(&record, 0);
     }
 }
 
@@ -507,6 +516,7 @@ fn run(calls: &mut Calls, seed: u64) {
     accepted_drawings(calls, random, &any);
     accepted_drawings(calls, random, &generate::symmetric());
     damaged_drawings(calls, random, 2500);
+    joined_twice(calls, random);
     codes(calls, random, 1200);
     matches(calls, random, 1200);
     symmetric_matches(calls, random, &generate::symmetric());
@@ -529,6 +539,9 @@ fn main() -> ExitCode {
     let mut calls = Calls::new(!seeds[0]);
     for &seed in seeds {
         run(&mut calls, seed);
+    }
+    for record in pairs::every_two_pairs() {
+        calls.code(&record, 0);
     }
     books::accepted(&mut calls);
     books::refused(&mut calls);

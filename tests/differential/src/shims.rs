@@ -111,6 +111,29 @@ fn is_lone_code(code: &[u8]) -> bool {
     code.len() == 5 && code[..2] == [0, 0]
 }
 
+/// Of the first two cables of a drawing that join one pair: their places, and the ends of each as they stand.
+fn pair_again(drawing: &[u8]) -> Option<([usize; 2], [[u8; 2]; 2])> {
+    let ends: Vec<[u8; 2]> = drawing[12..]
+        .chunks(3)
+        .take(cables(drawing).into())
+        .map(|cable| [cable[0], cable[1]])
+        .collect();
+    let joins = |place: usize, [a, b]: [u8; 2]| ends[place] == [a, b] || ends[place] == [b, a];
+    let earlier = |later: usize| (0..later).find(|&place| joins(place, ends[later]));
+    let (first, second) = (0..ends.len()).find_map(|later| Some((earlier(later)?, later)))?;
+    Some(([first, second], [ends[first], ends[second]]))
+}
+
+/// Tells 6 as 8 where the places and the ends of the two cables are such.
+fn spoil_pair(given: &Given, came: &mut Came, wanted: impl Fn([usize; 2], [[u8; 2]; 2]) -> bool) {
+    if came.refusal() == 6 {
+        let (places, ends) = pair_again(given.first).expect("a pair that is joined twice");
+        if wanted(places, ends) {
+            came.set_refusal(8);
+        }
+    }
+}
+
 /// The records of an entry.
 fn records(entry: &[u8]) -> std::slice::Chunks<'_, u8> {
     entry[2..][..5 * usize::from(entry[0])].chunks(5)
@@ -177,6 +200,24 @@ pub const SHIMS: &[(&str, &str, Spoil)] = &[
                 came.set_refusal(2);
             }
         },
+    ),
+    (
+        "code",
+        "6 of a cable told from its other end",
+        |given, came| spoil_pair(given, came, |_, [first, second]| first != second),
+    ),
+    ("code", "6 of a cable told alike", |given, came| {
+        spoil_pair(given, came, |_, [first, second]| first == second)
+    }),
+    ("code", "6 of the last two devices", |given, came| {
+        spoil_pair(given, came, |_, [first, _]| {
+            first.contains(&8) && first.contains(&9)
+        })
+    }),
+    (
+        "code",
+        "6 of the first and the last of 20 cables",
+        |given, came| spoil_pair(given, came, |places, _| places == [0, 19]),
     ),
     ("decode", "the kind of a tenth device", |_, came| {
         if came.answered() && came.output.first() == Some(&10) {
@@ -432,6 +473,22 @@ pub const SHIMS: &[(&str, &str, Spoil)] = &[
         |given, came| {
             if came.drawing() == 31 && given.first.len() == 32 * RECORD {
                 *came.returned -= 1 << 40;
+            }
+        },
+    ),
+    (
+        "catalogue",
+        "6 of a pair that the drawing before has too",
+        |given, came| {
+            let drawings: Vec<&[u8]> = given.first.chunks(RECORD).collect();
+            let first_alike = |at: usize| drawings[at][12..14] == drawings[at - 1][12..14];
+            if came.answered() {
+                let at_fault =
+                    (1..drawings.len()).find(|&at| cables(drawings[at]) > 0 && first_alike(at));
+                if let Some(at) = at_fault {
+                    *came.returned = (at as u64 * 256 + 6) << 32;
+                    came.output.copy_from_slice(came.lent);
+                }
             }
         },
     ),

@@ -4,6 +4,7 @@ use crate::code::{self, Code, Record};
 use crate::drawing::{Cable, Drawing};
 use crate::generate::plain;
 use crate::map;
+use crate::pairs;
 use std::cmp::Ordering;
 
 const PATH: &[(usize, usize)] = &[(0, 1), (1, 2)];
@@ -176,4 +177,18 @@ fn surveys_with_lone_devices() {
     );
     let text = usual_text(include_bytes!("../../program/cases/lone_alone.in"));
     assert_eq!(text, include_str!("../../program/cases/lone_alone.out"));
+}
+
+#[test]
+fn pairs_joined_twice() {
+    let refusals = |records: Vec<Vec<u8>>| -> Vec<Result<Drawing, u8>> {
+        records.iter().map(|record| Drawing::read(record)).collect()
+    };
+    let two = refusals(pairs::every_two_pairs());
+    let (twice, others): (Vec<_>, Vec<_>) = two.into_iter().partition(|read| *read == Err(6));
+    // 45 pairs, each cable of the two from either end; no two cables connect ten devices.
+    assert_eq!((twice.len(), others.len()), (45 * 4, 45 * 44 * 4));
+    assert!(others.iter().all(|read| *read == Err(8)));
+    let places = refusals(pairs::every_two_places(&plain(TRIANGLE)));
+    assert_eq!(places, vec![Err(6); 3 * 4]);
 }

@@ -7,6 +7,7 @@ mod edges;
 mod large;
 mod lone;
 mod notation;
+mod pairs;
 mod published;
 #[cfg(test)]
 mod tests;
@@ -271,6 +272,7 @@ pub fn list() -> List {
     published::put(&mut list);
     large::put(&mut list);
     book::put(&mut list);
+    pairs::put(&mut list);
     list.put_cut();
     list
 }

@@ -42,7 +42,7 @@ counts-pass : (c : tie.After-enum-told) → counts-refusal (c .before .before .b
 counts-pass c = accepted-zero (c .before .before .check-counts .ensures) (c .enum-told .given .1)
 
 check-cables-requires : tie.Need-check-cables-requires
-check-cables-requires c κs = search needs
+check-cables-requires c κs = counts-pass c
 
 enum-known-r-2 : tie.Need-enum-known-r-2
 enum-known-r-2 c = search needs

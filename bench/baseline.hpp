@@ -1,6 +1,8 @@
-// The baseline as one call: from the bytes of a survey to the bytes of its entries. Nothing is refused.
+// The baseline as one call: from the bytes of a survey to the bytes of its entries. Nothing is refused. It counts drawings, or cranes where asked.
 #pragma once
 #include <cstdint>
 #include <vector>
 
-std::vector<uint8_t> baseline_catalogue(const std::vector<uint8_t> &survey, int threshold, int limit);
+enum class Counts { DRAWINGS, CRANES };
+
+std::vector<uint8_t> baseline_catalogue(const std::vector<uint8_t> &survey, int threshold, int limit, Counts counts);

@@ -1,4 +1,5 @@
-// The catalogue of the library beside that of the baseline: same surveys, same run, entries compared byte for byte.
+// The catalogue of the library beside that of the baseline: same surveys, same run, entries compared byte for byte. First each of the 32 drawings is
+// a crane of its own, and the baseline counts drawings; then some of the same drawings are the sheets of 8 cranes, four each, and it counts cranes.
 #include "baseline.hpp"
 #include "clock.hpp"
 #include "holvreiz.h"
@@ -22,10 +23,11 @@ struct Measured {
 };
 
 // The lent output is one entry longer than the answer: what the call leaves there is compared too.
-static Measured measure(int kinds, Setting setting, unsigned seed) {
+static Measured measure(int kinds, Setting setting, unsigned seed, int cranes) {
     Measured m;
-    Bytes survey = bench::survey(kinds, seed), expected;
-    m.baseline = bench::least([&] { expected = baseline_catalogue(survey, setting.threshold, setting.limit); });
+    Bytes survey = bench::survey(kinds, seed, cranes), expected;
+    Counts counts = cranes == bench::SURVEY_DRAWINGS ? Counts::DRAWINGS : Counts::CRANES;
+    m.baseline = bench::least([&] { expected = baseline_catalogue(survey, setting.threshold, setting.limit, counts); });
     m.entries = expected.size() / HOLVREIZ_ENTRY_BYTES;
     expected.resize(expected.size() + HOLVREIZ_ENTRY_BYTES, LENT);
     Bytes output(expected.size(), LENT);
@@ -37,26 +39,46 @@ static Measured measure(int kinds, Setting setting, unsigned seed) {
     return m;
 }
 
-int main() {
+struct Table {
+    int catalogues = 0, differ = 0;
     double worst = 0;
-    int differ = 0;
-    printf("| kinds | s, L | entries | baseline ms | library ms | library / baseline |\n|---|---|---|---|---|---|\n");
-    for (int kinds : KINDS)
-        for (Setting setting : SETTINGS) {
-            Measured m[3];
-            for (int i = 0; i < 3; i++) {
-                m[i] = measure(kinds, setting, SEEDS[i]);
-                worst = std::max(worst, m[i].library / m[i].baseline);
-                differ += !m[i].agree;
-            }
-            printf("| %d | %u, %u | %zu, %zu, %zu ", kinds, setting.threshold, setting.limit, m[0].entries, m[1].entries, m[2].entries);
-            printf("| %.2f, %.2f, %.2f ", 1e3 * m[0].baseline, 1e3 * m[1].baseline, 1e3 * m[2].baseline);
-            printf("| %.2f, %.2f, %.2f ", 1e3 * m[0].library, 1e3 * m[1].library, 1e3 * m[2].library);
-            printf("| %.2f, %.2f, %.2f |\n", m[0].library / m[0].baseline, m[1].library / m[1].baseline, m[2].library / m[2].baseline);
-            fflush(stdout);
+
+    static void head() {
+        printf("| kinds | s, L | entries | baseline ms | library ms | library / baseline |\n|---|---|---|---|---|---|\n");
+    }
+
+    void row(int kinds, Setting setting, int cranes) {
+        Measured m[3];
+        for (int i = 0; i < 3; i++) {
+            m[i] = measure(kinds, setting, SEEDS[i], cranes);
+            worst = std::max(worst, m[i].library / m[i].baseline);
+            differ += !m[i].agree;
+            catalogues++;
         }
-    printf("\nWorst ratio %.2f. ", worst);
-    if (differ) printf("DIFFERENT ENTRIES in %d of 60 catalogues.\n", differ);
-    else printf("All 60 catalogues agree byte for byte.\n");
-    return differ != 0;
+        printf("| %d | %u, %u | %zu, %zu, %zu ", kinds, setting.threshold, setting.limit, m[0].entries, m[1].entries, m[2].entries);
+        printf("| %.2f, %.2f, %.2f ", 1e3 * m[0].baseline, 1e3 * m[1].baseline, 1e3 * m[2].baseline);
+        printf("| %.2f, %.2f, %.2f ", 1e3 * m[0].library, 1e3 * m[1].library, 1e3 * m[2].library);
+        printf("| %.2f, %.2f, %.2f |\n", m[0].library / m[0].baseline, m[1].library / m[1].baseline, m[2].library / m[2].baseline);
+        fflush(stdout);
+    }
+
+    void end() const {
+        printf("\nWorst ratio %.2f. ", worst);
+        if (differ) printf("DIFFERENT ENTRIES in %d of %d catalogues.\n", differ, catalogues);
+        else printf("All %d catalogues agree byte for byte.\n", catalogues);
+    }
+};
+
+int main() {
+    Table own, eight;
+    Table::head();
+    for (int kinds : KINDS)
+        for (Setting setting : SETTINGS) own.row(kinds, setting, bench::SURVEY_DRAWINGS);
+    own.end();
+    printf("\nThe same drawings as sheets of 8 cranes, four each:\n\n");
+    Table::head();
+    for (int kinds : KINDS)
+        for (Setting setting : {SETTINGS[0], SETTINGS[1]}) eight.row(kinds, setting, 8);
+    eight.end();
+    return own.differ + eight.differ != 0;
 }

@@ -45,8 +45,7 @@ static Bytes hubs() {
             cables.push_back({0, v, (8 * d + v) % 256});
             cables.push_back({1, v, (8 * d + v + 100) % 256});
         }
-        Bytes next = bench::drawing_of(kinds, cables);
-        bytes.insert(bytes.end(), next.begin(), next.end());
+        bench::file(bytes, bench::drawing_of(kinds, cables), d);
     }
     return bytes;
 }

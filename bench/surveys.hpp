@@ -11,10 +11,11 @@ namespace bench {
 using Bytes = std::vector<uint8_t>;
 using Random = std::mt19937;
 
-constexpr int DRAWING_BYTES = 72, DEVICES = 10, CABLES = 20, CABLES_AT = 12, SURVEY_DRAWINGS = 32;
+constexpr int DRAWING_BYTES = 73, DEVICES = 10, CABLES = 20, CABLES_AT = 12, CRANE_AT = 72, SURVEY_DRAWINGS = 32;
 
 struct Cable { int a, b, kind; };
 
+// A drawing of crane 0.
 inline Bytes drawing_of(const std::vector<int> &kinds, const std::vector<Cable> &cables) {
     Bytes bytes(DRAWING_BYTES);
     bytes[0] = kinds.size();
@@ -49,14 +50,17 @@ inline Bytes drawing(Random &random, int devices, int most, int device_kinds, in
     return drawing_of(kinds, cables);
 }
 
-// A survey of the largest size: 32 drawings of 10 devices and 20 cables.
-inline Bytes survey(int kinds, unsigned seed) {
+// Puts a drawing behind a survey, as a sheet of this crane.
+inline void file(Bytes &survey, Bytes drawing, int crane) {
+    drawing[CRANE_AT] = crane;
+    survey.insert(survey.end(), drawing.begin(), drawing.end());
+}
+
+// A survey of the largest size: 32 drawings of 10 devices and 20 cables. Their cranes take turns: with 32 each drawing is its own.
+inline Bytes survey(int kinds, unsigned seed, int cranes = SURVEY_DRAWINGS) {
     Random random(seed);
     Bytes bytes;
-    for (int d = 0; d < SURVEY_DRAWINGS; d++) {
-        Bytes next = drawing(random, DEVICES, CABLES, kinds, kinds);
-        bytes.insert(bytes.end(), next.begin(), next.end());
-    }
+    for (int d = 0; d < SURVEY_DRAWINGS; d++) file(bytes, drawing(random, DEVICES, CABLES, kinds, kinds), d % cranes);
     return bytes;
 }
 

@@ -29,13 +29,16 @@ extern "C" {
 #endif
 
 /* SIZES
- * A drawing is one record of 72 bytes: n (1 to 10), m (0 where n is 1, else 1 to 20), ten device kinds, twenty cables of three
- * bytes (one end, other end, cable kind). Devices count from 0, kinds are 0 to 255, unused bytes are zero.
- * A survey is 1 to 32 drawings one after another.
+ * A drawing is one record of 73 bytes: n (1 to 10), m (0 where n is 1, else 1 to 20), ten device kinds, twenty cables of three
+ * bytes (one end, other end, cable kind), the number of the crane that it is a sheet of. Devices count from 0, kinds and crane are 0 to 255,
+ * unused bytes are zero. Codes, matching and sameness do not look at the crane.
+ * A survey is 1 to 32 drawings one after another; several may be sheets of one crane.
  * A code is 1 to 20 records of 5 bytes: i, j, kind of i, cable kind, kind of j. That of a lone device of kind k is the one
  * record 0, 0, k, 0, k.
- * An entry of a catalogue or a book is 42 bytes: number of cables, support, the records of the least code, zeros up to 8 records. */
-#define HOLVREIZ_DRAWING_BYTES 72
+ * An entry of a catalogue or a book is 42 bytes: number of cables, support, the records of the least code, zeros up to 8 records.
+ * The support in a catalogue is the number of different cranes among the drawings that contain the pattern; in a book it is 0. */
+#define HOLVREIZ_DRAWING_BYTES 73
+#define HOLVREIZ_CRANE_AT 72 /* the place of a drawing's crane */
 #define HOLVREIZ_SURVEY_DRAWINGS 32
 #define HOLVREIZ_RECORD_BYTES 5
 #define HOLVREIZ_CODE_BYTES 100 /* the longest code */
@@ -46,13 +49,13 @@ extern "C" {
  * drawings or codes the first is checked fully before the second. A call's settings, 12 and 13, 16 and 17, come before all else. */
 enum holvreiz_reason {
     HOLVREIZ_ANSWERED = 0,
-    HOLVREIZ_DRAWING_LENGTH = 1,  /* a drawing is not 72 bytes long, or a survey no multiple of 72 */
+    HOLVREIZ_DRAWING_LENGTH = 1,  /* a drawing is not 73 bytes long, or a survey no multiple of 73 */
     HOLVREIZ_DEVICE_COUNT = 2,    /* n is not 1 to 10 */
     HOLVREIZ_CABLE_COUNT = 3,     /* m is not 0 where n is 1, or not 1 to 20 where n is more */
     HOLVREIZ_CABLE_END = 4,       /* an end is not below n */
     HOLVREIZ_CABLE_LOOP = 5,      /* both ends are equal */
     HOLVREIZ_CABLE_PAIR = 6,      /* an earlier cable joins the pair */
-    HOLVREIZ_UNUSED_BYTE = 7,     /* an unused byte is not zero */
+    HOLVREIZ_UNUSED_BYTE = 7,     /* an unused byte is not zero; the crane is never unused */
     HOLVREIZ_NOT_CONNECTED = 8,   /* cables don't lead from each device to every other */
     HOLVREIZ_CODE_LENGTH = 9,     /* a code has no byte, over 100, or no multiple of 5 */
     HOLVREIZ_STEP = 10,           /* a record is not a permitted step; 0, 0 is one alone only, with cable kind 0 */
@@ -82,8 +85,8 @@ static inline uint32_t holvreiz_drawing(uint64_t returned) {
  * some renumbering of devices makes one the other. Count: bytes written. */
 uint64_t holvreiz_code(const uint8_t *drawing, size_t drawing_length, uint8_t *output, size_t output_length);
 
-/* Writes the drawing that a code describes, with devices numbered as in the code and cables in the order of its records.
- * Needs 72 bytes of output. Count: bytes written. */
+/* Writes the drawing that a code describes, with devices numbered as in the code and cables in the order of its records; its crane is 0.
+ * Needs 73 bytes of output. Count: bytes written. */
 uint64_t holvreiz_decode(const uint8_t *code, size_t code_length, uint8_t *output, size_t output_length);
 
 /* Whether a code is the least of the drawing that it describes. Count: 1 yes, 0 no. */
@@ -97,12 +100,13 @@ uint64_t holvreiz_compare(const uint8_t *first, size_t first_length, const uint8
 uint64_t holvreiz_match(const uint8_t *pattern, size_t pattern_length, const uint8_t *drawing, size_t drawing_length,
                         uint8_t *output, size_t output_length);
 
-/* Whether two drawings are the same, however their devices are numbered and their cables ordered. Count: 1 yes, 0 no. */
+/* Whether two drawings are the same, however their devices are numbered and their cables ordered, and whatever their cranes are. Count: 1 yes,
+ * 0 no. */
 uint64_t holvreiz_same(const uint8_t *first, size_t first_length, const uint8_t *second, size_t second_length);
 
-/* Writes the catalogue of a survey: an entry for each pattern of 1 to `limit` cables (1 to 8) that at least `threshold`
- * drawings (1 to 32) contain, codes rising. Needs 42 bytes of output for each entry; how many there are the call alone can tell: after
- * HOLVREIZ_OUTPUT_LENGTH lend more and call again. 65,520 bytes do for most surveys at 2 and 4. Count: entries. */
+/* Writes the catalogue of a survey: an entry for each pattern of 1 to `limit` cables (1 to 8) that drawings of at least `threshold`
+ * different cranes (1 to 32) contain, codes rising. Sheets of one crane count once. Needs 42 bytes of output for each entry; how many there are
+ * the call alone can tell: after HOLVREIZ_OUTPUT_LENGTH lend more and call again. 65,520 bytes do for most surveys at 2 and 4. Count: entries. */
 uint64_t holvreiz_catalogue(const uint8_t *survey, size_t survey_length, uint32_t threshold, uint32_t limit,
                             uint8_t *output, size_t output_length);
 

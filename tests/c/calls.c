@@ -31,33 +31,34 @@ static int all(const uint8_t *bytes, size_t count, uint8_t value) {
     return 1;
 }
 
-enum { LENT = 200, MARK = 170 };
+enum { LENT = 200, MARK = 170, DRAWING = HOLVREIZ_DRAWING_BYTES, CRANE_AT = HOLVREIZ_CRANE_AT };
 
 static uint8_t output[LENT];
 
 static void lend(void) { memset(output, MARK, LENT); }
 
-/* A path of three devices (D3), a triangle (D4), of kind 1 and cable 5; D3 without its second cable, which leaves a device apart. */
-static const uint8_t path[72] = {3, 2, 1, 1, 1, 0, 0, 0, 0, 0, 0, 0, 0, 1, 5, 1, 2, 5};
-static const uint8_t triangle[72] = {3, 3, 1, 1, 1, 0, 0, 0, 0, 0, 0, 0, 0, 1, 5, 1, 2, 5, 2, 0, 5};
-static const uint8_t apart[72] = {3, 1, 1, 1, 1, 0, 0, 0, 0, 0, 0, 0, 0, 1, 5};
+/* A path of three devices (D3), a triangle (D4), of kind 1 and cable 5; D3 without its second cable, which leaves a device apart. All are of
+ * crane 0. */
+static const uint8_t path[DRAWING] = {3, 2, 1, 1, 1, 0, 0, 0, 0, 0, 0, 0, 0, 1, 5, 1, 2, 5};
+static const uint8_t triangle[DRAWING] = {3, 3, 1, 1, 1, 0, 0, 0, 0, 0, 0, 0, 0, 1, 5, 1, 2, 5, 2, 0, 5};
+static const uint8_t apart[DRAWING] = {3, 1, 1, 1, 1, 0, 0, 0, 0, 0, 0, 0, 0, 1, 5};
 static const uint8_t path_code[10] = {0, 1, 1, 5, 1, 1, 2, 1, 5, 1};
 static const uint8_t fork_code[10] = {0, 1, 1, 5, 1, 0, 2, 1, 5, 1};
 static const uint8_t no_code[10] = {0, 1, 1, 5, 1, 1, 0, 1, 5, 1};
 
 static void codes(void) {
     lend();
-    EXPECT(is(holvreiz_code(path, 72, output, LENT), HOLVREIZ_ANSWERED, 10, 0));
+    EXPECT(is(holvreiz_code(path, DRAWING, output, LENT), HOLVREIZ_ANSWERED, 10, 0));
     EXPECT(memcmp(output, path_code, 10) == 0 && all(output + 10, LENT - 10, MARK));
     lend();
-    EXPECT(is(holvreiz_code(path, 72, output, 9), HOLVREIZ_OUTPUT_LENGTH, 0, 0) && all(output, LENT, MARK));
-    EXPECT(is(holvreiz_code(path, 71, output, LENT), HOLVREIZ_DRAWING_LENGTH, 0, 0) && all(output, LENT, MARK));
-    EXPECT(is(holvreiz_code(apart, 72, output, LENT), HOLVREIZ_NOT_CONNECTED, 0, 0) && all(output, LENT, MARK));
+    EXPECT(is(holvreiz_code(path, DRAWING, output, 9), HOLVREIZ_OUTPUT_LENGTH, 0, 0) && all(output, LENT, MARK));
+    EXPECT(is(holvreiz_code(path, DRAWING - 1, output, LENT), HOLVREIZ_DRAWING_LENGTH, 0, 0) && all(output, LENT, MARK));
+    EXPECT(is(holvreiz_code(apart, DRAWING, output, LENT), HOLVREIZ_NOT_CONNECTED, 0, 0) && all(output, LENT, MARK));
 
-    EXPECT(is(holvreiz_decode(path_code, 10, output, LENT), HOLVREIZ_ANSWERED, 72, 0));
-    EXPECT(memcmp(output, path, 72) == 0 && all(output + 72, LENT - 72, MARK));
+    EXPECT(is(holvreiz_decode(path_code, 10, output, LENT), HOLVREIZ_ANSWERED, DRAWING, 0));
+    EXPECT(memcmp(output, path, DRAWING) == 0 && all(output + DRAWING, LENT - DRAWING, MARK));
     lend();
-    EXPECT(is(holvreiz_decode(path_code, 10, output, 71), HOLVREIZ_OUTPUT_LENGTH, 0, 0) && all(output, LENT, MARK));
+    EXPECT(is(holvreiz_decode(path_code, 10, output, DRAWING - 1), HOLVREIZ_OUTPUT_LENGTH, 0, 0) && all(output, LENT, MARK));
     EXPECT(is(holvreiz_decode(no_code, 10, output, LENT), HOLVREIZ_STEP, 0, 0) && all(output, LENT, MARK));
 
     EXPECT(is(holvreiz_is_least(path_code, 10), HOLVREIZ_ANSWERED, 1, 0));
@@ -75,56 +76,86 @@ static void maps(void) {
     static const uint8_t map[3] = {0, 1, 2};
 
     lend();
-    EXPECT(is(holvreiz_match(path, 72, triangle, 72, output, LENT), HOLVREIZ_ANSWERED, 3, 0));
+    EXPECT(is(holvreiz_match(path, DRAWING, triangle, DRAWING, output, LENT), HOLVREIZ_ANSWERED, 3, 0));
     EXPECT(memcmp(output, map, 3) == 0 && all(output + 3, LENT - 3, MARK));
     lend();
-    EXPECT(is(holvreiz_match(triangle, 72, path, 72, output, LENT), HOLVREIZ_ANSWERED, 0, 0) && all(output, LENT, MARK));
-    EXPECT(is(holvreiz_match(path, 72, triangle, 72, output, 2), HOLVREIZ_OUTPUT_LENGTH, 0, 0) && all(output, LENT, MARK));
-    EXPECT(is(holvreiz_match(path, 72, apart, 72, output, LENT), HOLVREIZ_NOT_CONNECTED, 0, 0) && all(output, LENT, MARK));
+    EXPECT(is(holvreiz_match(triangle, DRAWING, path, DRAWING, output, LENT), HOLVREIZ_ANSWERED, 0, 0) && all(output, LENT, MARK));
+    EXPECT(is(holvreiz_match(path, DRAWING, triangle, DRAWING, output, 2), HOLVREIZ_OUTPUT_LENGTH, 0, 0) && all(output, LENT, MARK));
+    EXPECT(is(holvreiz_match(path, DRAWING, apart, DRAWING, output, LENT), HOLVREIZ_NOT_CONNECTED, 0, 0) && all(output, LENT, MARK));
 
-    EXPECT(is(holvreiz_same(path, 72, path, 72), HOLVREIZ_ANSWERED, 1, 0));
-    EXPECT(is(holvreiz_same(path, 72, triangle, 72), HOLVREIZ_ANSWERED, 0, 0));
-    EXPECT(is(holvreiz_same(path, 0, triangle, 72), HOLVREIZ_DRAWING_LENGTH, 0, 0));
+    EXPECT(is(holvreiz_same(path, DRAWING, path, DRAWING), HOLVREIZ_ANSWERED, 1, 0));
+    EXPECT(is(holvreiz_same(path, DRAWING, triangle, DRAWING), HOLVREIZ_ANSWERED, 0, 0));
+    EXPECT(is(holvreiz_same(path, 0, triangle, DRAWING), HOLVREIZ_DRAWING_LENGTH, 0, 0));
 }
 
 static void catalogues(void) {
-    uint8_t survey[3 * 72];
-    memcpy(survey, path, 72);
-    memcpy(survey + 72, triangle, 72);
-    memcpy(survey + 144, apart, 72);
+    uint8_t survey[3 * DRAWING];
+    memcpy(survey, path, DRAWING);
+    memcpy(survey + DRAWING, triangle, DRAWING);
+    memcpy(survey + 2 * DRAWING, apart, DRAWING);
+    survey[DRAWING + CRANE_AT] = 1;
 
     lend();
-    EXPECT(is(holvreiz_catalogue(survey, 144, 1, 4, output, LENT), HOLVREIZ_ANSWERED, 3, 0));
+    EXPECT(is(holvreiz_catalogue(survey, 2 * DRAWING, 1, 4, output, LENT), HOLVREIZ_ANSWERED, 3, 0));
     EXPECT(output[0] == 1 && output[1] == 2 && output[42] == 2 && output[43] == 2 && output[84] == 3 && output[85] == 1);
     EXPECT(memcmp(output + 44, path_code, 10) == 0 && all(output + 54, 30, 0) && all(output + 126, LENT - 126, MARK));
     lend();
-    EXPECT(is(holvreiz_catalogue(survey, 144, 1, 4, output, 125), HOLVREIZ_OUTPUT_LENGTH, 0, 0));
+    EXPECT(is(holvreiz_catalogue(survey, 2 * DRAWING, 1, 4, output, 125), HOLVREIZ_OUTPUT_LENGTH, 0, 0));
     EXPECT(all(output, 125, 0) && all(output + 125, LENT - 125, MARK));
     lend();
-    EXPECT(is(holvreiz_catalogue(survey, 216, 1, 4, output, LENT), HOLVREIZ_NOT_CONNECTED, 0, 2) && all(output, LENT, MARK));
-    EXPECT(is(holvreiz_catalogue(survey, 144, 0, 9, output, LENT), HOLVREIZ_THRESHOLD, 0, 0) && all(output, LENT, MARK));
-    EXPECT(is(holvreiz_catalogue(survey, 144, 32, 9, output, LENT), HOLVREIZ_SIZE_LIMIT, 0, 0) && all(output, LENT, MARK));
+    EXPECT(is(holvreiz_catalogue(survey, 3 * DRAWING, 1, 4, output, LENT), HOLVREIZ_NOT_CONNECTED, 0, 2) && all(output, LENT, MARK));
+    EXPECT(is(holvreiz_catalogue(survey, 2 * DRAWING, 0, 9, output, LENT), HOLVREIZ_THRESHOLD, 0, 0) && all(output, LENT, MARK));
+    EXPECT(is(holvreiz_catalogue(survey, 2 * DRAWING, 32, 9, output, LENT), HOLVREIZ_SIZE_LIMIT, 0, 0) && all(output, LENT, MARK));
     EXPECT(is(holvreiz_catalogue(survey, 0, 1, 4, output, LENT), HOLVREIZ_SURVEY_LENGTH, 0, 0) && all(output, LENT, MARK));
+}
+
+/* The path and the triangle as sheets of one crane and of two; the other calls, whatever the crane; drawings without the byte. */
+static void cranes(void) {
+    static const uint8_t map[3] = {0, 1, 2};
+    uint8_t survey[2 * DRAWING], elsewhere[DRAWING];
+    EXPECT(DRAWING == 73 && CRANE_AT == 72);
+    memcpy(survey, path, DRAWING);
+    memcpy(survey + DRAWING, triangle, DRAWING);
+
+    lend();
+    EXPECT(is(holvreiz_catalogue(survey, 2 * DRAWING, 1, 4, output, LENT), HOLVREIZ_ANSWERED, 3, 0));
+    EXPECT(output[1] == 1 && output[43] == 1 && output[85] == 1);
+    lend();
+    EXPECT(is(holvreiz_catalogue(survey, 2 * DRAWING, 2, 4, output, LENT), HOLVREIZ_ANSWERED, 0, 0) && all(output, LENT, MARK));
+    survey[CRANE_AT] = 255;
+    EXPECT(is(holvreiz_catalogue(survey, 2 * DRAWING, 2, 4, output, LENT), HOLVREIZ_ANSWERED, 2, 0));
+    EXPECT(output[1] == 2 && output[43] == 2 && all(output + 84, LENT - 84, MARK));
+    lend();
+    EXPECT(is(holvreiz_catalogue(survey, 2 * CRANE_AT, 1, 4, output, LENT), HOLVREIZ_DRAWING_LENGTH, 0, 0) && all(output, LENT, MARK));
+
+    memcpy(elsewhere, path, DRAWING);
+    elsewhere[CRANE_AT] = 255;
+    EXPECT(is(holvreiz_code(elsewhere, DRAWING, output, LENT), HOLVREIZ_ANSWERED, 10, 0) && memcmp(output, path_code, 10) == 0);
+    EXPECT(is(holvreiz_match(elsewhere, DRAWING, triangle, DRAWING, output, LENT), HOLVREIZ_ANSWERED, 3, 0) && memcmp(output, map, 3) == 0);
+    EXPECT(is(holvreiz_same(elsewhere, DRAWING, path, DRAWING), HOLVREIZ_ANSWERED, 1, 0));
+    EXPECT(is(holvreiz_same(elsewhere, CRANE_AT, path, DRAWING), HOLVREIZ_DRAWING_LENGTH, 0, 0));
+    elsewhere[CRANE_AT - 1] = 1;
+    EXPECT(is(holvreiz_code(elsewhere, DRAWING, output, LENT), HOLVREIZ_UNUSED_BYTE, 0, 0));
 }
 
 /* Every call of devices without cables, of kinds 7 and 8. */
 static void lone(void) {
-    static const uint8_t seven[72] = {1, 0, 7}, eight[72] = {1, 0, 8}, one[72] = {1, 0, 1}, with_cable[72] = {1, 1, 7};
+    static const uint8_t seven[DRAWING] = {1, 0, 7}, eight[DRAWING] = {1, 0, 8}, one[DRAWING] = {1, 0, 1}, with_cable[DRAWING] = {1, 1, 7};
     static const uint8_t code[5] = {0, 0, 7, 0, 7}, greater[5] = {0, 0, 8, 0, 8};
     static const uint8_t with_kind[5] = {0, 0, 7, 1, 7}, unequal[5] = {0, 0, 7, 0, 8};
-    uint8_t survey[3 * 72];
+    uint8_t survey[3 * DRAWING];
 
     lend();
-    EXPECT(is(holvreiz_code(seven, 72, output, 4), HOLVREIZ_OUTPUT_LENGTH, 0, 0) && all(output, LENT, MARK));
-    EXPECT(is(holvreiz_code(with_cable, 72, output, LENT), HOLVREIZ_CABLE_COUNT, 0, 0) && all(output, LENT, MARK));
-    EXPECT(is(holvreiz_code(seven, 72, output, LENT), HOLVREIZ_ANSWERED, 5, 0));
+    EXPECT(is(holvreiz_code(seven, DRAWING, output, 4), HOLVREIZ_OUTPUT_LENGTH, 0, 0) && all(output, LENT, MARK));
+    EXPECT(is(holvreiz_code(with_cable, DRAWING, output, LENT), HOLVREIZ_CABLE_COUNT, 0, 0) && all(output, LENT, MARK));
+    EXPECT(is(holvreiz_code(seven, DRAWING, output, LENT), HOLVREIZ_ANSWERED, 5, 0));
     EXPECT(memcmp(output, code, 5) == 0 && all(output + 5, LENT - 5, MARK));
 
     lend();
     EXPECT(is(holvreiz_decode(with_kind, 5, output, LENT), HOLVREIZ_STEP, 0, 0) && all(output, LENT, MARK));
     EXPECT(is(holvreiz_decode(unequal, 5, output, LENT), HOLVREIZ_KIND, 0, 0) && all(output, LENT, MARK));
-    EXPECT(is(holvreiz_decode(code, 5, output, LENT), HOLVREIZ_ANSWERED, 72, 0));
-    EXPECT(memcmp(output, seven, 72) == 0 && all(output + 72, LENT - 72, MARK));
+    EXPECT(is(holvreiz_decode(code, 5, output, LENT), HOLVREIZ_ANSWERED, DRAWING, 0));
+    EXPECT(memcmp(output, seven, DRAWING) == 0 && all(output + DRAWING, LENT - DRAWING, MARK));
 
     EXPECT(is(holvreiz_is_least(code, 5), HOLVREIZ_ANSWERED, 1, 0));
     EXPECT(is(holvreiz_is_least(unequal, 5), HOLVREIZ_KIND, 0, 0));
@@ -135,24 +166,24 @@ static void lone(void) {
     EXPECT(is(holvreiz_compare(code, 5, with_kind, 5), HOLVREIZ_STEP, 0, 0));
 
     lend();
-    EXPECT(is(holvreiz_match(seven, 72, path, 72, output, LENT), HOLVREIZ_ANSWERED, 0, 0) && all(output, LENT, MARK));
-    EXPECT(is(holvreiz_match(path, 72, one, 72, output, LENT), HOLVREIZ_ANSWERED, 0, 0) && all(output, LENT, MARK));
-    EXPECT(is(holvreiz_match(one, 72, path, 72, output, 0), HOLVREIZ_OUTPUT_LENGTH, 0, 0) && all(output, LENT, MARK));
-    EXPECT(is(holvreiz_match(one, 72, path, 72, output, LENT), HOLVREIZ_ANSWERED, 1, 0));
+    EXPECT(is(holvreiz_match(seven, DRAWING, path, DRAWING, output, LENT), HOLVREIZ_ANSWERED, 0, 0) && all(output, LENT, MARK));
+    EXPECT(is(holvreiz_match(path, DRAWING, one, DRAWING, output, LENT), HOLVREIZ_ANSWERED, 0, 0) && all(output, LENT, MARK));
+    EXPECT(is(holvreiz_match(one, DRAWING, path, DRAWING, output, 0), HOLVREIZ_OUTPUT_LENGTH, 0, 0) && all(output, LENT, MARK));
+    EXPECT(is(holvreiz_match(one, DRAWING, path, DRAWING, output, LENT), HOLVREIZ_ANSWERED, 1, 0));
     EXPECT(output[0] == 0 && all(output + 1, LENT - 1, MARK));
-    EXPECT(is(holvreiz_same(seven, 72, seven, 72), HOLVREIZ_ANSWERED, 1, 0));
-    EXPECT(is(holvreiz_same(seven, 72, eight, 72), HOLVREIZ_ANSWERED, 0, 0));
-    EXPECT(is(holvreiz_same(seven, 72, with_cable, 72), HOLVREIZ_CABLE_COUNT, 0, 0));
+    EXPECT(is(holvreiz_same(seven, DRAWING, seven, DRAWING), HOLVREIZ_ANSWERED, 1, 0));
+    EXPECT(is(holvreiz_same(seven, DRAWING, eight, DRAWING), HOLVREIZ_ANSWERED, 0, 0));
+    EXPECT(is(holvreiz_same(seven, DRAWING, with_cable, DRAWING), HOLVREIZ_CABLE_COUNT, 0, 0));
 
-    memcpy(survey, seven, 72);
-    memcpy(survey + 72, seven, 72);
-    memcpy(survey + 144, path, 72);
+    memcpy(survey, seven, DRAWING);
+    memcpy(survey + DRAWING, seven, DRAWING);
+    memcpy(survey + 2 * DRAWING, path, DRAWING);
     lend();
-    EXPECT(is(holvreiz_catalogue(survey, 144, 1, 8, output, LENT), HOLVREIZ_ANSWERED, 0, 0) && all(output, LENT, MARK));
-    EXPECT(is(holvreiz_catalogue(survey, 216, 1, 1, output, LENT), HOLVREIZ_ANSWERED, 1, 0));
+    EXPECT(is(holvreiz_catalogue(survey, 2 * DRAWING, 1, 8, output, LENT), HOLVREIZ_ANSWERED, 0, 0) && all(output, LENT, MARK));
+    EXPECT(is(holvreiz_catalogue(survey, 3 * DRAWING, 1, 1, output, LENT), HOLVREIZ_ANSWERED, 1, 0));
     EXPECT(output[0] == 1 && output[1] == 1 && memcmp(output + 2, path_code, 5) == 0 && all(output + 42, LENT - 42, MARK));
-    memcpy(survey + 72, with_cable, 72);
-    EXPECT(is(holvreiz_catalogue(survey, 216, 1, 1, output, LENT), HOLVREIZ_CABLE_COUNT, 0, 1));
+    memcpy(survey + DRAWING, with_cable, DRAWING);
+    EXPECT(is(holvreiz_catalogue(survey, 3 * DRAWING, 1, 1, output, LENT), HOLVREIZ_CABLE_COUNT, 0, 1));
 }
 
 /* The smallest book, and each refusal: 16 before 17, and both before 15. */
@@ -181,6 +212,7 @@ int main(void) {
     codes();
     maps();
     catalogues();
+    cranes();
     lone();
     books();
     return failures != 0;

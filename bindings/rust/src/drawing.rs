@@ -1,5 +1,5 @@
-//! The 72 bytes of a drawing, put together device by device and cable by cable.
-use crate::{Refusal, DRAWING_BYTES};
+//! The 73 bytes of a drawing, put together device by device and cable by cable.
+use crate::{Refusal, CRANE_AT, DRAWING_BYTES};
 
 const MOST_DEVICES: usize = 10;
 const MOST_CABLES: usize = 20;
@@ -7,9 +7,9 @@ const KINDS_AT: usize = 2;
 const CABLES_AT: usize = 12;
 const CABLE_BYTES: usize = 3;
 
-/// A drawing under work. What its 72 bytes cannot hold, and what no accepted drawing has, is refused at once, by the same
+/// A drawing under work. What its 73 bytes cannot hold, and what no accepted drawing has, is refused at once, by the same
 /// reasons as the calls give; whether cables lead from each device to every other is for the calls to say. One device alone is a
-/// drawing.
+/// drawing. It is a sheet of crane 0 until another is given.
 ///
 /// ```
 /// use holvreiz::{Drawing, Refusal};
@@ -19,6 +19,7 @@ const CABLE_BYTES: usize = 3;
 /// let drive = drawing.device(3)?;
 /// drawing.cable(contactor, drive, 1)?;
 /// assert_eq!(drawing.cable(drive, contactor, 2), Err(Refusal::CablePair));
+/// drawing.crane(17);
 ///
 /// let mut code = [0; holvreiz::CODE_BYTES];
 /// let length = holvreiz::code(&drawing.bytes(), &mut code)?;
@@ -31,7 +32,7 @@ pub struct Drawing {
 }
 
 impl Drawing {
-    /// No device yet.
+    /// No device yet, and crane 0.
     pub fn new() -> Drawing {
         Drawing {
             bytes: [0; DRAWING_BYTES],
@@ -83,6 +84,11 @@ impl Drawing {
         Ok(())
     }
 
+    /// The crane that the drawing is a sheet of. A catalogue counts the sheets of one crane once; the other calls do not look at it.
+    pub fn crane(&mut self, number: u8) {
+        self.bytes[CRANE_AT] = number;
+    }
+
     /// The drawing's record.
     pub fn bytes(&self) -> [u8; DRAWING_BYTES] {
         self.bytes
@@ -130,6 +136,20 @@ mod tests {
         assert_eq!(drawing.cables(), MOST_CABLES);
         assert_eq!(drawing.cable(1, 6, 5), Err(Refusal::CableCount));
         assert_eq!(crate::same(&drawing.bytes(), &drawing.bytes()), Ok(true));
+    }
+
+    #[test]
+    fn the_crane_is_the_last_byte_and_the_calls_ignore_it() {
+        let mut drawing = row();
+        assert_eq!(drawing.bytes()[CRANE_AT..], [0]);
+        for crane in [1, 255] {
+            drawing.crane(crane);
+            assert_eq!(drawing.bytes()[CRANE_AT..], [crane]);
+            assert_eq!(drawing.bytes()[..CRANE_AT], row().bytes()[..CRANE_AT]);
+            assert_eq!(crate::same(&drawing.bytes(), &row().bytes()), Ok(true));
+        }
+        drawing.crane(0);
+        assert_eq!(drawing, row());
     }
 
     #[test]

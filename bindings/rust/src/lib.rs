@@ -1,8 +1,9 @@
 //! Holvreiz gives a wiring drawing its identity, lists the patterns that recur in a survey of drawings, and all small patterns.
 //!
-//! A drawing is a small labelled graph, held in a record of 72 bytes; its identity is its least DFS code. Every call takes any
-//! bytes of any length: what is no drawing, code or survey is turned back with the one [`Refusal`] that the format names. The
-//! library behind these calls is proved; this crate only passes slices on and takes the returned number apart.
+//! A drawing is a small labelled graph, held in a record of 73 bytes; its identity is its least DFS code. The record names too the crane
+//! that the drawing is a sheet of; only [`catalogue`], which counts cranes, looks at that. Every call takes any bytes of any length: what is
+//! no drawing, code or survey is turned back with the one [`Refusal`] that the format names. The library behind these calls is proved; this
+//! crate only passes slices on and takes the returned number apart.
 //!
 //! ```
 //! // two devices, of kinds 2 and 1, joined by a cable of kind 7
@@ -31,10 +32,13 @@ pub mod raw;
 
 pub use drawing::Drawing;
 
-/// The size of a drawing: n, m, ten device kinds, twenty cables of three bytes (one end, other end, cable kind).
-pub const DRAWING_BYTES: usize = 72;
+/// The size of a drawing: n, m, ten device kinds, twenty cables of three bytes (one end, other end, cable kind), the crane.
+pub const DRAWING_BYTES: usize = 73;
 
-/// The most drawings in a survey, which has them one after another.
+/// The place of a drawing's crane, 0 to 255.
+pub const CRANE_AT: usize = 72;
+
+/// The most drawings in a survey, which has them one after another. Several may be sheets of one crane.
 pub const SURVEY_DRAWINGS: usize = 32;
 
 /// The size of a code's record: i, j, kind of i, cable kind, kind of j. A lone device of kind k has the one record 0, 0, k, 0, k.
@@ -46,7 +50,8 @@ pub const CODE_BYTES: usize = 100;
 /// The size of the longest map.
 pub const MAP_BYTES: usize = 10;
 
-/// The size of an entry of a catalogue or a book: number of cables, support, the least code's records, zeros up to 8 records.
+/// The size of an entry of a catalogue or a book: number of cables, support, the least code's records, zeros up to 8 records. The support in a
+/// catalogue is the number of different cranes among the drawings that contain the pattern; in a book it is 0.
 pub const ENTRY_BYTES: usize = 42;
 
 /// Why a call is turned back, by the format's numbers 1 to 17. A refused call writes nothing; only [`Refusal::OutputLength`] of a
@@ -54,7 +59,7 @@ pub const ENTRY_BYTES: usize = 42;
 #[derive(Clone, Copy, Debug, PartialEq, Eq, Hash, PartialOrd, Ord)]
 #[repr(u8)]
 pub enum Refusal {
-    /// A drawing is not 72 bytes long, or a survey no multiple of that.
+    /// A drawing is not 73 bytes long, or a survey no multiple of that.
     DrawingLength = 1,
     /// The number of devices is not 1 to 10.
     DeviceCount,
@@ -66,7 +71,7 @@ pub enum Refusal {
     CableLoop,
     /// Two cables join one pair of devices.
     CablePair,
-    /// An unused byte is not zero.
+    /// An unused byte is not zero. The crane is never unused.
     UnusedByte,
     /// Cables don't lead from each device to every other.
     NotConnected,
@@ -121,7 +126,7 @@ impl Refusal {
     pub fn words(self) -> &'static str {
         match self {
             Refusal::DrawingLength => {
-                "a drawing is not 72 bytes long, or a survey no multiple of that"
+                "a drawing is not 73 bytes long, or a survey no multiple of that"
             }
             Refusal::DeviceCount => "the number of devices is not 1 to 10",
             Refusal::CableCount => {
@@ -209,7 +214,7 @@ pub fn code(drawing: &[u8], output: &mut [u8]) -> Result<usize, Refusal> {
 
 /// Writes the drawing that a code describes into `output` and gives the number of bytes written, [`DRAWING_BYTES`].
 ///
-/// Devices are numbered as in the code, cables stand in the order of its records.
+/// Devices are numbered as in the code, cables stand in the order of its records. The crane is 0.
 pub fn decode(code: &[u8], output: &mut [u8]) -> Result<usize, Refusal> {
     answered(raw::decode(code, output))
 }
@@ -245,17 +250,18 @@ pub fn match_drawing(
     )
 }
 
-/// Whether two drawings are the same, however their devices are numbered and their cables ordered.
+/// Whether two drawings are the same, however their devices are numbered and their cables ordered, and whatever their cranes are.
 pub fn same(first: &[u8], second: &[u8]) -> Result<bool, Refusal> {
     Ok(answered(raw::same(first, second))? == 1)
 }
 
 /// Writes the catalogue of a survey into `output`, [`ENTRY_BYTES`] for each entry, and gives the number of entries.
 ///
-/// There is an entry for each pattern of 1 to `limit` cables that at least `threshold` drawings contain; codes rise. Where
-/// the entries don't fit, the whole output is zero and the refusal is [`Refusal::OutputLength`]. How many there are the call
-/// alone can tell: lend more and call again. 65,520 bytes, 1,560 entries, do for most surveys at 2 and 4; no survey has more than
-/// 8,446,368 entries. A catalogue needs about 1.74 MB of stack (see the crate's first page).
+/// There is an entry for each pattern of 1 to `limit` cables that drawings of at least `threshold` different cranes contain; codes
+/// rise. Sheets of one crane count once. Where the entries don't fit, the whole output is zero and the refusal is
+/// [`Refusal::OutputLength`]. How many there are the call alone can tell: lend more and call again. 65,520 bytes, 1,560 entries, do for
+/// most surveys at 2 and 4; no survey has more than 8,446,368 entries. A catalogue needs about 1.74 MB of stack (see the crate's first
+/// page).
 pub fn catalogue(
     survey: &[u8],
     threshold: u32,

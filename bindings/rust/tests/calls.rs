@@ -12,6 +12,12 @@ fn drawing(kinds: &[u8], cables: &[[u8; 3]]) -> [u8; holvreiz::DRAWING_BYTES] {
     record
 }
 
+/// The same drawing as a sheet of this crane.
+fn of_crane(mut record: [u8; holvreiz::DRAWING_BYTES], crane: u8) -> [u8; holvreiz::DRAWING_BYTES] {
+    record[holvreiz::CRANE_AT] = crane;
+    record
+}
+
 /// Kind 1 and cable 5 throughout.
 fn plain(devices: usize, pairs: &[[u8; 2]]) -> [u8; holvreiz::DRAWING_BYTES] {
     let cables: Vec<[u8; 3]> = pairs.iter().map(|&[a, b]| [a, b, 5]).collect();
@@ -40,9 +46,15 @@ fn the_least_code_of_a_drawing() {
 
 #[test]
 fn the_drawing_of_a_code() {
-    let mut output = [0; holvreiz::DRAWING_BYTES];
+    let mut output = [9; holvreiz::DRAWING_BYTES];
+    let code = plain_code(&[[0, 1], [1, 2], [2, 0]]);
     assert_eq!(
-        holvreiz::decode(&plain_code(&[[0, 1], [1, 2], [2, 0]]), &mut output),
+        holvreiz::decode(&code, &mut output[..holvreiz::CRANE_AT]),
+        Err(Refusal::OutputLength)
+    );
+    assert_eq!(output, [9; holvreiz::DRAWING_BYTES]);
+    assert_eq!(
+        holvreiz::decode(&code, &mut output),
         Ok(holvreiz::DRAWING_BYTES)
     );
     assert_eq!(output, plain(3, &[[0, 1], [1, 2], [2, 0]]));
@@ -114,7 +126,7 @@ fn whether_two_drawings_are_the_same() {
 fn the_catalogue_of_a_survey() {
     let survey = [
         plain(3, &[[0, 1], [1, 2]]),
-        plain(3, &[[0, 1], [1, 2], [2, 0]]),
+        of_crane(plain(3, &[[0, 1], [1, 2], [2, 0]]), 1),
     ]
     .concat();
     let mut output = [9; 3 * holvreiz::ENTRY_BYTES];
@@ -139,6 +151,51 @@ fn the_catalogue_of_a_survey() {
     assert_eq!(
         refused.to_string(),
         "refused 8 drawing 2: cables do not lead from each device to every other"
+    );
+}
+
+/// The path and the triangle of the paper, as sheets of one crane and of two.
+#[test]
+fn cranes() {
+    let (path, triangle) = (
+        plain(3, &[[0, 1], [1, 2]]),
+        plain(3, &[[0, 1], [1, 2], [2, 0]]),
+    );
+    for (cranes, supports) in [
+        ([0, 1], [2, 2, 1]),
+        ([255, 0], [2, 2, 1]),
+        ([4, 4], [1, 1, 1]),
+    ] {
+        let survey = [of_crane(path, cranes[0]), of_crane(triangle, cranes[1])].concat();
+        let mut output = [9; 3 * holvreiz::ENTRY_BYTES];
+        assert_eq!(holvreiz::catalogue(&survey, 1, 4, &mut output), Ok(3));
+        let entries = output.chunks(holvreiz::ENTRY_BYTES);
+        assert!(entries.map(|entry| entry[1]).eq(supports));
+        let frequent = supports.iter().filter(|&&support| support >= 2).count();
+        let usual = holvreiz::catalogue(&survey, 2, 4, &mut output);
+        assert_eq!(usual, Ok(frequent));
+    }
+
+    let elsewhere = of_crane(triangle, 255);
+    let (mut code, mut same) = ([0; 15], [0; 15]);
+    assert_eq!(holvreiz::code(&triangle, &mut code), Ok(15));
+    assert_eq!(holvreiz::code(&elsewhere, &mut same), Ok(15));
+    assert_eq!(code, same);
+    assert_eq!(holvreiz::same(&triangle, &elsewhere), Ok(true));
+    assert_eq!(
+        holvreiz::match_drawing(&path, &elsewhere, &mut code),
+        Ok(Some(3))
+    );
+
+    let without = [&path[..holvreiz::CRANE_AT], &triangle[..holvreiz::CRANE_AT]].concat();
+    let refused = holvreiz::catalogue(&without, 1, 4, &mut code).unwrap_err();
+    assert_eq!(
+        (refused.refusal, refused.drawing),
+        (Refusal::DrawingLength, None)
+    );
+    assert_eq!(
+        holvreiz::code(&path[..holvreiz::CRANE_AT], &mut code),
+        Err(Refusal::DrawingLength)
     );
 }
 

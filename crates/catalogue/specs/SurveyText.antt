@@ -2,19 +2,19 @@
 -- survey. Assumes nothing: these are definitions.
 use mathlib.Core.List.{List}
 use Prim.Native.Nat.{ℕ}
-use Rattle.graphs.specs.Survey.{survey, survey-refusal}
-use Rattle.growth.specs.Catalogue.{Often, support-in}
+use Rattle.graphs.specs.Survey.{survey, cranes, survey-refusal}
+use Rattle.growth.specs.Catalogue.{Often-in, support-of}
 use Rattle.printing.specs.declared.answer.Printed.{Printed}
 use Rattle.printing.specs.ListTexts.{List-text, List-text-says, List-text-whole}
 
 -- THE TEXT of a survey, with room for so many bytes of entries
 abbrev pub Survey-text : (bytes : List ℕ) (s l room : ℕ) → (text : List ℕ) → Type 0
-Survey-text bs s l = List-text (survey-refusal bs s l) (Often (survey bs) s) (support-in (survey bs)) l
+Survey-text bs s l = List-text (survey-refusal bs s l) (Often-in bs s) (support-of bs) l
 
 -- THE OUTCOME of making it
 abbrev pub Survey-text-says : (bytes : List ℕ) (s l room : ℕ) (r : Printed) (out out-now : List ℕ) → Type 0
-Survey-text-says bs s l = List-text-says (survey-refusal bs s l) (Often (survey bs) s) (support-in (survey bs)) l
+Survey-text-says bs s l = List-text-says (survey-refusal bs s l) (Often-in bs s) (support-of bs) l
 
 -- THE TEXT OF THE PROGRAM: the whole text of the survey's usual catalogue, with 65,520 bytes for entries
 abbrev pub Program-text : (bytes : List ℕ) (r : ℕ) (out out-now : List ℕ) → Type 0
-Program-text bs = List-text-whole (survey-refusal bs 2 4) (Often (survey bs) 2) (support-in (survey bs)) 4 65520
+Program-text bs = List-text-whole (survey-refusal bs 2 4) (Often-in bs 2) (support-of bs) 4 65520

@@ -10,8 +10,8 @@ use lib.ListN.{length}
 use Rattle.laws.specs.Rows.{rows-length}
 use Rattle.graphs.specs.Drawing.{drawing-refusal}
 use Rattle.graphs.specs.Survey as surveys
-use Rattle.graphs.specs.Survey.{survey, records-in, drawings-refusal, length-refusal, bytes-refusal, survey-refusal}
-use Rattle.growth.specs.Catalogue.{Often, support-in}
+use Rattle.graphs.specs.Survey.{survey, cranes, records-in, drawings-refusal, length-refusal, bytes-refusal, survey-refusal}
+use Rattle.growth.specs.Catalogue.{Often-in, support-of}
 use Rattle.mining.specs.CatalogueSays.{Catalogue-says}
 use Rattle.records.specs.declared.catalogued.Catalogued.{Catalogued}
 use Rattle.printing.specs.declared.answer.Printed.{Printed}
@@ -39,7 +39,7 @@ drawing-low bs s l =
     either (length bs) (not (leb 1 s && leb s 32)) (surveys.refusal 12 0) _ (omega arith)
     (either (length bs) (not (leb 1 l && leb l 8)) (surveys.refusal 13 0) (bytes-refusal bs) (omega arith)
     (either (length bs) (eqb (length-refusal bs) 0) (drawings-refusal 0 (records-in bs)) (surveys.refusal (length-refusal bs) 0)
-    (omega (arith, drawings-low 0 (records-in bs), rows-length 72 (length bs / 72) bs))
+    (omega (arith, drawings-low 0 (records-in bs), rows-length 73 (length bs / 73) bs))
     (omega arith)))
 
 -- MAKING IT: the catalogue call, then the text of what it answers and leaves
@@ -48,5 +48,5 @@ pub survey-text-made :
     → length bs < 10 ^ 20 → length es < 10 ^ 20 → length es-now ≡ length es → Bytes-in es-now
     → (r : Printed) (out out-now : List ℕ) → Text-says a es-now r out out-now → Survey-text-says bs s l (length es) r out out-now
 survey-text-made bs s l low a es es-now says small =
-    list-text-made (survey-refusal bs s l) (Often (survey bs) s) (support-in (survey bs)) l (λ e. low) (omega (arith, drawing-low bs s l))
+    list-text-made (survey-refusal bs s l) (Often-in bs s) (support-of bs) l (λ e. low) (omega (arith, drawing-low bs s l))
     a es es-now says

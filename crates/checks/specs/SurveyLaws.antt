@@ -18,11 +18,11 @@ use Rattle.laws.specs.Rows.{rows-left, left-start, left-next, left-end}
 
 -- THE LENGTH
 module _ (bs : List ℕ) where
-  pub length-broken : (length bs % 72 ≡ 0 → ⊥) → length-refusal bs ≡ 1
+  pub length-broken : (length bs % 73 ≡ 0 → ⊥) → length-refusal bs ≡ 1
   unfolding length-refusal
   length-broken h = simp (ne-eqb _ _ h)
 
-  module _ (whole : length bs % 72 ≡ 0) where
+  module _ (whole : length bs % 73 ≡ 0) where
     pub length-none : drawing-count bs < 1 → length-refusal bs ≡ 14
     unfolding length-refusal
     length-none h = simp (eq-eqb _ _ whole, lt-leb _ _ h)
@@ -46,28 +46,28 @@ module _ (bs : List ℕ) where
 -- THE DRAWINGS from d on
 module _ (bs : List ℕ) (d : ℕ) where
   unfoldable pub drawings-from : Refusal
-  drawings-from = drawings-refusal d (rows-left 72 (drawing-count bs) bs d)
+  drawings-from = drawings-refusal d (rows-left 73 (drawing-count bs) bs d)
 
 module _ (bs : List ℕ) where
   pub drawings-start : drawings-refusal 0 (records-in bs) ≡ drawings-from bs 0
   unfolding records-in drawings-from
-  drawings-start = ap (drawings-refusal 0) (left-start 72 (drawing-count bs) bs)
+  drawings-start = ap (drawings-refusal 0) (left-start 73 (drawing-count bs) bs)
 
-  pub drawing-refused : (d : ℕ) → d < drawing-count bs → 0 < drawing-refusal (row 72 d bs)
-      → drawings-from bs d ≡ refusal (drawing-refusal (row 72 d bs)) d
+  pub drawing-refused : (d : ℕ) → d < drawing-count bs → 0 < drawing-refusal (row 73 d bs)
+      → drawings-from bs d ≡ refusal (drawing-refusal (row 73 d bs)) d
   unfolding drawings-from drawings-refusal
   drawing-refused d h g =
-      let n : drawing-refusal (row 72 d bs) ≡ 0 → ⊥ = λ e. omega arith in
-      rw (left-next 72 (drawing-count bs) bs d h) (simp (ne-eqb _ _ n))
+      let n : drawing-refusal (row 73 d bs) ≡ 0 → ⊥ = λ e. omega arith in
+      rw (left-next 73 (drawing-count bs) bs d h) (simp (ne-eqb _ _ n))
 
-  pub drawing-passed : (d : ℕ) → d < drawing-count bs → drawing-refusal (row 72 d bs) ≡ 0
+  pub drawing-passed : (d : ℕ) → d < drawing-count bs → drawing-refusal (row 73 d bs) ≡ 0
       → drawings-from bs d ≡ drawings-from bs (d + 1)
   unfolding drawings-from drawings-refusal
-  drawing-passed d h e = rw (left-next 72 (drawing-count bs) bs d h) (simp (eq-eqb _ _ e) (rw add-one))
+  drawing-passed d h e = rw (left-next 73 (drawing-count bs) bs d h) (simp (eq-eqb _ _ e) (rw add-one))
 
   pub drawings-end : (d : ℕ) → drawing-count bs ≤ d → drawings-from bs d ≡ refusal 0 0
   unfolding drawings-from drawings-refusal
-  drawings-end d h = rw (left-end 72 (drawing-count bs) bs d h)
+  drawings-end d h = rw (left-end 73 (drawing-count bs) bs d h)
 
 -- AN ANSWER that refuses, and one that accepts
 module _ (told : Refusal) (bs : List ℕ) where

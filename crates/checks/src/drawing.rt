@@ -18,7 +18,8 @@ fn unused_zero(drawing: &[u8], counts: Drawing) -> bool
 {
     let kinds_end = Drawing::KINDS_AT + counts.devices;
     let cables_end = Drawing::CABLES_AT + Drawing::CABLE_BYTES * counts.cables;
-    all_zero(&drawing[kinds_end..Drawing::CABLES_AT]) && all_zero(&drawing[cables_end..])
+    all_zero(&drawing[kinds_end..Drawing::CABLES_AT])
+        && all_zero(&drawing[cables_end..Drawing::CRANE_AT])
 }
 
 // The first reason to refuse the rest of a drawing whose cables are sound: the unused bytes, then whether it is connected.

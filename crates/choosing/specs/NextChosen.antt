@@ -21,14 +21,14 @@ pub record Room-to-choose (s : ℕ) (list : List ℕ) (base : ℕ) : Type 0 wher
   pub list-size : length list ≡ candidates-size
   pub room : base + places-size ≤ candidates-size
 
--- WHAT GOES ON FROM γ above some floors in at least s drawings stands in the list from `base` up to `top`; the cells are blank again
-pub record Candidates-chosen (ds : List Drawing) (γ : List Rec) (rank : List ℕ) (n s : ℕ) (cells seen list : List ℕ) (base : ℕ) (list-now : List ℕ)
-    (top : ℕ) : Type 0 where
+-- WHAT GOES ON FROM γ above some floors in drawings of at least s cranes stands in the list from `base` up to `top`; the cells are blank again
+pub record Candidates-chosen (cr : List ℕ) (ds : List Drawing) (γ : List Rec) (rank : List ℕ) (n s : ℕ) (cells seen list : List ℕ) (base : ℕ)
+    (list-now : List ℕ) (top : ℕ) : Type 0 where
   pub floors : List ℕ
   pub laid : Floors-of γ floors
   pub sets : ℕ → List Bool
   pub counting : Counting (place-of rank n) (Grown-above γ floors) ds (length ds) sets
-  pub chosen : Chosen-cells sets s n (part base top list-now)
+  pub chosen : Chosen-cells cr sets s n (part base top list-now)
   pub low : base ≤ top
   pub high : top ≤ base + places-size
   pub kept : List-kept base list list-now

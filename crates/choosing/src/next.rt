@@ -1,4 +1,4 @@
-// The candidates of a code: the records that extend it are counted in the drawings that contain it, and those with enough drawings chosen.
+// The candidates of a code: the records that extend it are counted in the drawings that contain it, and those with enough cranes chosen.
 use candidates::choose::CANDIDATES;
 use candidates::choose::choose;
 use counting::next::count_next;
@@ -9,7 +9,7 @@ use marking::cells::PLACES;
 use records::code::Code;
 use surveys::labels::TABLES;
 ghost use Rattle.codes.specs.Code.{recs-in};
-ghost use Rattle.walks.specs.LabelMarks.{drawings-of};
+ghost use Rattle.walks.specs.LabelMarks.{drawings-of, cranes-of};
 ghost use Rattle.walks.specs.Prepared.{Readied};
 ghost use Rattle.walks.specs.Counts.{Blank};
 ghost use Rattle.walks.specs.EmbeddingRows.{Can-list-if, Level-made};
@@ -21,8 +21,8 @@ pub struct ChosenNext {
     pub listed: bool,
 }
 
-// The candidates of a code of m records, rising, in the list from `base` on: the records that extend it in at least s drawings of the
-// cell's set. Some that are certain not to lead to a least code may be left out.
+// The candidates of a code of m records, rising, in the list from `base` on: the records that extend it in drawings of at least s cranes of
+// the cell's set. Some that are certain not to lead to a least code may be left out.
 pub fn choose_next(
     survey: &[u8],
     labels: &[u32; TABLES],
@@ -43,7 +43,8 @@ pub fn choose_next(
     requires { ⌜ Readied (now survey) (now labels) (now rank) n × Blank (now cells) (now seen)
         × Can-list-if (now survey) (now labels) (now code) m cell listed (now kept) (now ends)
         × Room-to-choose s (now list) base ⌝ }
-    ensures { λ r. ⌜ Candidates-chosen (drawings-of (now (survey .entry))) (recs-in m (now (code .entry))) (now (rank .entry)) n s
+    ensures { λ r. ⌜ Candidates-chosen (cranes-of (now (survey .entry))) (drawings-of (now (survey .entry)))
+        (recs-in m (now (code .entry))) (now (rank .entry)) n s
         (now (cells .exit)) (now (seen .exit)) (now (list .entry)) base (now (list .exit)) (r .top)
         × Level-made (now (survey .entry)) (now (code .entry)) m
         (now (kept .entry)) (now (ends .entry)) (now (kept .exit)) (now (ends .exit)) (r .listed) ⌝ }
@@ -62,7 +63,7 @@ pub fn choose_next(
         kept,
         ends,
     );
-    let top = choose(cells, seen, next.found, s, list, base);
+    let top = choose(labels, cells, seen, next.found, s, list, base);
     ChosenNext {
         top,
         listed: next.listed,

@@ -29,7 +29,8 @@ Bytes-tell =
 
 -- support doesn't depend on how a pattern is drawn
 unfoldable pub Support-same : Type 0
-Support-same = (p q : Drawing) (ds : List Drawing) → is-pattern p ≡ true → is-pattern q ≡ true → Same p q → support p ds ≡ support q ds
+Support-same =
+    (p q : Drawing) (cr : List ℕ) (ds : List Drawing) → is-pattern p ≡ true → is-pattern q ≡ true → Same p q → support p cr ds ≡ support q cr ds
 
 -- THE SECOND DEMAND: every accepted drawing has its least code
 unfoldable pub Least-there : Type 0

@@ -46,8 +46,8 @@ bytes-tell labels o xs ys rs ss a b = section-bytes-tell labels o (drawing-in xs
 
 pub support-same : Support-same
 unfolding Support-same
-support-same p q ds a b m =
-    Containment.same-support p q (pattern-from-test p a .simple .ends) (pattern-from-test q b .simple .ends) m ds
+support-same p q cr ds a b m =
+    Containment.same-support p q (pattern-from-test p a .simple .ends) (pattern-from-test q b .simple .ends) m cr ds
 
 pub least-there : Least-there
 unfolding Least-there

@@ -1,4 +1,4 @@
--- What decoding answers and leaves, and how its record of 72 bytes is filled. Assumes nothing: these are definitions.
+-- What decoding answers and leaves, and how its record of 73 bytes is filled. Assumes nothing: these are definitions.
 use mathlib.Core.Path.{_≡_}
 use mathlib.Core.Bool.{cond}
 use mathlib.Core.List.{List}
@@ -17,17 +17,17 @@ use Rattle.code_checks.specs.Answers.{Put-says}
 use Rattle.code_checks.specs.SectionChecks.{section-code-checked}
 use Rattle.codes.specs.Code.{code-records}
 
--- 9, 10, 11, then 15 where fewer than 72 bytes are lent
+-- 9, 10, 11, then 15 where fewer than 73 bytes are lent
 unfoldable pub decode-checked : (code out : List ℕ) → Checked
-decode-checked bs o = or-else (section-code-checked bs) (cond (ltb (length o) 72) (Refused OutputLength) Accepted)
+decode-checked bs o = or-else (section-code-checked bs) (cond (ltb (length o) 73) (Refused OutputLength) Accepted)
 
--- the record of the drawing that a code describes
+-- the record of the drawing that a code describes; a code tells no crane, so that byte is 0
 abbrev pub decoded-bytes : (code : List ℕ) → List ℕ
-decoded-bytes bs = drawing-bytes (section-of (code-records bs))
+decoded-bytes bs = drawing-bytes 0 (section-of (code-records bs))
 
 -- the same of a DFS code, record by record
 abbrev pub steps-bytes : (code : List ℕ) → List ℕ
-steps-bytes bs = drawing-bytes (decoded (code-records bs))
+steps-bytes bs = drawing-bytes 0 (decoded (code-records bs))
 
 -- THE OUTCOME: a refusal, and the output is as it was, or the record in front of the lent bytes
 abbrev pub Decode-says : (code : List ℕ) → Written → (out out-now : List ℕ) → Type 0
@@ -51,18 +51,18 @@ write-forward e bs = cond (ltb (e .i) (e .j)) (write-device (e .j) (e .kj) bs) b
 abbrev pub write-record : (k : ℕ) → Rec → List ℕ → List ℕ
 write-record k e bs = write-cable k e (write-forward e (write-first k e bs))
 
--- a code that is not refused, and the 72 bytes for its drawing
+-- a code that is not refused, and the 73 bytes for its drawing
 pub record Can-write (code drawing : List ℕ) : Type 0 where
   pub accepted : section-code-refusal code ≡ 0
-  pub room : length drawing ≡ 72
+  pub room : length drawing ≡ 73
 
--- a DFS code that is not refused, and 72 zeros
+-- a DFS code that is not refused, and 73 zeros
 pub record Can-write-steps (code drawing : List ℕ) : Type 0 where
   pub accepted : code-refusal code ≡ 0
-  pub zeros : drawing ≡ replicate 72 0
+  pub zeros : drawing ≡ replicate 73 0
 
 -- its record k and the same bytes
 pub record Can-write-record (k : ℕ) (e : Rec) (drawing : List ℕ) : Type 0 where
   pub few : k < 20
   pub device : e .i < e .j → e .j < 10
-  pub room : length drawing ≡ 72
+  pub room : length drawing ≡ 73

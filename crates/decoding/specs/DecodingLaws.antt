@@ -75,11 +75,11 @@ use Rattle.code_checks.specs.SectionCheckLaws.{section-checked-number, section-
 -- A CABLE AND A NEW DEVICE
 both-written :
     (d : Drawing) (e : Rec) (v : ℕ) → v ≡ devices d → devices d < 10 → length (d .cables) < 20
-    → write-cable (length (d .cables)) e (write-device v (e .kj) (drawing-bytes d))
-    ≡ drawing-bytes (cable-more (device-more d (e .kj)) (cable-of e))
+    → write-cable (length (d .cables)) e (write-device v (e .kj) (drawing-bytes 0 d))
+    ≡ drawing-bytes 0 (cable-more (device-more d (e .kj)) (cable-of e))
 both-written d e v is low few =
     ap (write-cable (length (d .cables)) e)
-    (ap (λ (w : ℕ). write-device w (e .kj) (drawing-bytes d)) is ∙ device-written d (e .kj) low)
+    (ap (λ (w : ℕ). write-device w (e .kj) (drawing-bytes 0 d)) is ∙ device-written d (e .kj) low)
     ∙ cable-written (device-more d (e .kj)) e (rw snoc-length (omega arith)) few
 
 -- THE FIRST RECORD names devices 0 and 1
@@ -90,30 +90,30 @@ module _ (e : Rec) (good : rows-refusal fresh (e ∷ []) ≡ 0) where
   abbrev device-zero : Drawing
   device-zero = record { kinds = e .ki ∷ []; cables = [] }
 
-  first-written : write-record 0 e (drawing-bytes (drawn fresh)) ≡ drawing-bytes (drawn (stepped fresh e))
+  first-written : write-record 0 e (drawing-bytes 0 (drawn fresh)) ≡ drawing-bytes 0 (drawn (stepped fresh e))
   first-written =
       ap (write-cable 0 e)
-      (ap (write-forward e) (write-first-some 0 e (drawing-bytes (drawn fresh)) refl ∙ device-zero-written)
-      ∙ forward-some 0 e (drawing-bytes device-zero) (omega (arith, ends .0, ends .1)))
+      (ap (write-forward e) (write-first-some 0 e (drawing-bytes 0 (drawn fresh)) refl ∙ device-zero-written)
+      ∙ forward-some 0 e (drawing-bytes 0 device-zero) (omega (arith, ends .0, ends .1)))
       ∙ both-written device-zero e (e .j) (ends .1) (omega arith) (omega arith)
-      ∙ ap (λ (x : Reading). drawing-bytes (drawn x)) (sym (begun-is e))
+      ∙ ap (λ (x : Reading). drawing-bytes 0 (drawn x)) (sym (begun-is e))
     where
-      device-zero-written : write-device 0 (e .ki) (drawing-bytes (drawn fresh)) ≡ drawing-bytes device-zero
+      device-zero-written : write-device 0 (e .ki) (drawing-bytes 0 (drawn fresh)) ≡ drawing-bytes 0 device-zero
       device-zero-written = unfold fresh in device-written (drawn fresh) (e .ki) (omega arith)
 
 -- A LATER RECORD names a new device if it is forward
 module _ (x : Reading) (v : Invariant x) (e : Rec) (k : ℕ) (later : k ≡ 0 → ⊥) (is : k ≡ length (x .cables)) (few : k < 20) where
-  later-written : (s : Step x e) → write-record k e (drawing-bytes (drawn x)) ≡ drawing-bytes (drawn (after s))
+  later-written : (s : Step x e) → write-record k e (drawing-bytes 0 (drawn x)) ≡ drawing-bytes 0 (drawn (after s))
   later-written (steps-back o p q) =
       ap (write-cable k e)
-      (ap (write-forward e) (write-first-none k e (drawing-bytes (drawn x)) later)
-      ∙ forward-none k e (drawing-bytes (drawn x)) (omega (arith, o .down)))
-      ∙ ap (λ (n : ℕ). write-cable n e (drawing-bytes (drawn x))) is ∙ cable-written (drawn x) e (v .ten) (omega arith)
+      (ap (write-forward e) (write-first-none k e (drawing-bytes 0 (drawn x)) later)
+      ∙ forward-none k e (drawing-bytes 0 (drawn x)) (omega (arith, o .down)))
+      ∙ ap (λ (n : ℕ). write-cable n e (drawing-bytes 0 (drawn x))) is ∙ cable-written (drawn x) e (v .ten) (omega arith)
   later-written (steps-forward m p q r) =
       ap (write-cable k e)
-      (ap (write-forward e) (write-first-none k e (drawing-bytes (drawn x)) later)
-      ∙ forward-some k e (drawing-bytes (drawn x)) (omega (arith, v .below (e .i) m)))
-      ∙ ap (λ (n : ℕ). write-cable n e (write-device (e .j) (e .kj) (drawing-bytes (drawn x)))) is
+      (ap (write-forward e) (write-first-none k e (drawing-bytes 0 (drawn x)) later)
+      ∙ forward-some k e (drawing-bytes 0 (drawn x)) (omega (arith, v .below (e .i) m)))
+      ∙ ap (λ (n : ℕ). write-cable n e (write-device (e .j) (e .kj) (drawing-bytes 0 (drawn x)))) is
       ∙ both-written (drawn x) e (e .j) p (omega arith) (omega arith)
 
   -- a new device has a number that may be
@@ -123,7 +123,7 @@ module _ (x : Reading) (v : Invariant x) (e : Rec) (k : ℕ) (later : k ≡ 0 �
 
 -- ONE RECORD MORE of accepted rows
 pub record Written-more (rs : List Rec) (e : Rec) : Type 0 where
-  pub written : write-record (length rs) e (drawing-bytes (decoded rs)) ≡ drawing-bytes (decoded (snoc rs e))
+  pub written : write-record (length rs) e (drawing-bytes 0 (decoded rs)) ≡ drawing-bytes 0 (decoded (snoc rs e))
   pub device : e .i < e .j → e .j < 10
 
 written-more : (rs : List Rec) (e : Rec) → length rs < 20 → rows-refusal fresh (snoc rs e) ≡ 0 → Written-more rs e
@@ -137,7 +137,7 @@ written-more (r ∷ rs) e few good =
     record {
       written =
           later-written x v e (length (r ∷ rs)) (λ z. omega arith) (sym (decoded-cables (r ∷ rs))) few s
-          ∙ ap (λ (y : Reading). drawing-bytes (drawn y)) next;
+          ∙ ap (λ (y : Reading). drawing-bytes 0 (drawn y)) next;
       device = later-device x v e (length (r ∷ rs)) (λ z. omega arith) (sym (decoded-cables (r ∷ rs))) few s;
     }
   where
@@ -175,7 +175,7 @@ module _ (bs : List ℕ) where
       parts : map rec-in (rows.rows 5 (k + m) bs) ≡ map rec-in (rows.rows 5 k bs) ++ rest
       parts = ap (map rec-in) (rows.rows-split 5 k m bs) ∙ map-append rec-in (rows.rows 5 k bs) (rows.rows 5 m (drop (5 * k) bs))
 
-  pub decoded-start : replicate 72 0 ≡ drawing-bytes (decoded (recs-in 0 bs))
+  pub decoded-start : replicate 73 0 ≡ drawing-bytes 0 (decoded (recs-in 0 bs))
   unfolding decoded recs-in rows.rows read-rows fresh
   decoded-start = nothing-drawn
 
@@ -194,10 +194,11 @@ module _ (bs : List ℕ) where
         whole : rows-refusal fresh (recs-in (length bs / 5) bs) ≡ 0
         whole = good-from-test (recs-in (length bs / 5) bs) (accepted-code bs accepted .good) .accepted
 
-    pub decoded-next : write-record k (checked-record bs k) (drawing-bytes (decoded (recs-in k bs))) ≡ drawing-bytes (decoded (recs-in (k + 1) bs))
+    pub decoded-next :
+        write-record k (checked-record bs k) (drawing-bytes 0 (decoded (recs-in k bs))) ≡ drawing-bytes 0 (decoded (recs-in (k + 1) bs))
     decoded-next =
-        ap (λ (n : ℕ). write-record n (checked-record bs k) (drawing-bytes (decoded (recs-in k bs)))) (sym (recs-in-length k bs))
-        ∙ more .written ∙ ap (λ (rs : List Rec). drawing-bytes (decoded rs)) (sym (recs-more k))
+        ap (λ (n : ℕ). write-record n (checked-record bs k) (drawing-bytes 0 (decoded (recs-in k bs)))) (sym (recs-in-length k bs))
+        ∙ more .written ∙ ap (λ (rs : List Rec). drawing-bytes 0 (decoded rs)) (sym (recs-more k))
 
     pub decoded-device : checked-record bs k .i < checked-record bs k .j → checked-record bs k .j < 10
     decoded-device = more .device
@@ -217,16 +218,16 @@ row-few rs g = go (row-good-from-test rs g)
     go (Row-good.cabled h) =
         rw (section-of-rows rs h) (decoded-devices rs h, omega (arith, decoded-cables rs, good-from-test rs h .most))
 
-section-length : (rs : List Rec) → records-good rs ≡ true → length (drawing-bytes (section-of rs)) ≡ 72
-section-length rs g = let few = row-few rs g in drawing-bytes-length (section-of rs) (few .0) (few .1)
+section-length : (rs : List Rec) → records-good rs ≡ true → length (drawing-bytes 0 (section-of rs)) ≡ 73
+section-length rs g = let few = row-few rs g in drawing-bytes-length 0 (section-of rs) (few .0) (few .1)
 
 -- A LONE DEVICE
-pub lone-written : (k : ℕ) → write-device 0 k (replicate 72 0) ≡ drawing-bytes (lone-drawing k)
+pub lone-written : (k : ℕ) → write-device 0 k (replicate 73 0) ≡ drawing-bytes 0 (lone-drawing k)
 lone-written k = ap (write-device 0 k) nothing-drawn ∙ device-written (record { kinds = []; cables = [] }) k (omega arith)
 
 -- THE TWO WAYS: a lone device's record, and a DFS code's
 module _ (bs : List ℕ) (fine : section-code-refusal bs ≡ 0) where
-  pub decoded-lone : (r : Rec) → lone-bytes bs ≡ true → r ≡ rec-in (rows.row 5 0 bs) → drawing-bytes (lone-drawing (r .ki)) ≡ decoded-bytes bs
+  pub decoded-lone : (r : Rec) → lone-bytes bs ≡ true → r ≡ rec-in (rows.row 5 0 bs) → drawing-bytes 0 (lone-drawing (r .ki)) ≡ decoded-bytes bs
   unfolding section-of lone-kind
   decoded-lone r t is =
       let p = lone-bytes-parts bs t in
@@ -234,15 +235,15 @@ module _ (bs : List ℕ) (fine : section-code-refusal bs ≡ 0) where
       rw (p .1, rs)
 
   pub decoded-steps : lone-bytes bs ≡ false → steps-bytes bs ≡ decoded-bytes bs
-  decoded-steps t = ap drawing-bytes (sym (section-of-rows (code-records bs) (accepted-code bs (steps-accepted bs fine t) .good)))
+  decoded-steps t = ap (drawing-bytes 0) (sym (section-of-rows (code-records bs) (accepted-code bs (steps-accepted bs fine t) .good)))
 
 -- THE OUTCOME, place by place
 module _ (bs o : List ℕ) where
   -- its number is the paper's: 9, 10, 11, then 15
-  pub decode-checked-number : checked-number (decode-checked bs o) ≡ first-of (section-code-refusal bs) (cond (ltb (length o) 72) 15 0)
+  pub decode-checked-number : checked-number (decode-checked bs o) ≡ first-of (section-code-refusal bs) (cond (ltb (length o) 73) 15 0)
   unfolding decode-checked
   decode-checked-number =
-      or-else-number (section-code-checked bs) _ ∙ ap₂ first-of (section-checked-number bs) (short (ltb (length o) 72))
+      or-else-number (section-code-checked bs) _ ∙ ap₂ first-of (section-checked-number bs) (short (ltb (length o) 73))
     where
       short : (t : Bool) → checked-number (cond t (Refused OutputLength) Accepted) ≡ cond t 15 0
       short true = refl
@@ -252,20 +253,20 @@ module _ (bs o : List ℕ) where
   unfolding decode-checked
   decode-refused r z e same = record { answer = rw e; output = rw e same }
 
-  pub decode-short : (z : List ℕ) → section-code-checked bs ≡ Accepted → length o < 72 → z ≡ o → Decode-says bs (written.Refused OutputLength) o z
+  pub decode-short : (z : List ℕ) → section-code-checked bs ≡ Accepted → length o < 73 → z ≡ o → Decode-says bs (written.Refused OutputLength) o z
   unfolding decode-checked
-  decode-short z e h same = record { answer = rw (e, lt-ltb (length o) 72 h); output = rw (e, lt-ltb (length o) 72 h) same }
+  decode-short z e h same = record { answer = rw (e, lt-ltb (length o) 73 h); output = rw (e, lt-ltb (length o) 73 h) same }
 
-  -- a code that is accepted describes a drawing of 72 bytes
-  pub decoded-length : section-code-checked bs ≡ Accepted → length (decoded-bytes bs) ≡ 72
+  -- a code that is accepted describes a drawing of 73 bytes
+  pub decoded-length : section-code-checked bs ≡ Accepted → length (decoded-bytes bs) ≡ 73
   decoded-length e = section-length (code-records bs) (accepted-section-code bs (section-checked-accepted bs e) .good)
 
   pub decode-written :
-      (z : List ℕ) → section-code-checked bs ≡ Accepted → 72 ≤ length o → z ≡ decoded-bytes bs ++ drop 72 o → Decode-says bs (written.Bytes 72) o z
+      (z : List ℕ) → section-code-checked bs ≡ Accepted → 73 ≤ length o → z ≡ decoded-bytes bs ++ drop 73 o → Decode-says bs (written.Bytes 73) o z
   unfolding decode-checked
   decode-written z e h is =
       let n = decoded-length e in
       record {
-        answer = rw (e, le-ltb (length o) 72 h) (ap written.Bytes (sym n));
-        output = rw (e, le-ltb (length o) 72 h) (is ∙ ap (λ (k : ℕ). decoded-bytes bs ++ drop k o) (sym n));
+        answer = rw (e, le-ltb (length o) 73 h) (ap written.Bytes (sym n));
+        output = rw (e, le-ltb (length o) 73 h) (is ∙ ap (λ (k : ℕ). decoded-bytes bs ++ drop k o) (sym n));
       }

@@ -1,5 +1,5 @@
 -- A drawing's record filled device by device and cable by cable: each store makes it the record of the drawing with one
--- more. Assumes nothing.
+-- more, its crane still 0. Assumes nothing.
 use mathlib.Core.Path.{_≡_, refl, sym, ap, ap₂, _∙_}
 use mathlib.Core.Bool.{Bool, true, false, cond}
 use mathlib.Core.List.{List, [], _∷_, _++_, append-assoc}
@@ -58,7 +58,7 @@ module _ (k : ℕ) (e : Rec) (bs : List ℕ) where
   forward-none h = rw (le-ltb (e .i) (e .j) h)
 
 -- NO DEVICE and no cable
-pub nothing-drawn : replicate 72 0 ≡ drawing-bytes (record { kinds = []; cables = [] })
+pub nothing-drawn : replicate 73 0 ≡ drawing-bytes 0 (record { kinds = []; cables = [] })
 unfolding drawing-bytes cable-bytes
 nothing-drawn = refl
 
@@ -93,13 +93,13 @@ device-stored m rest ks k h =
     rw (two, ten) (ap (λ (l : List ℕ). (length ks + 1) ∷ m ∷ l) (kind-stored ks (replicate (10 - (length ks + 1)) 0 ++ rest) k))
 
 cables-bytes : Drawing → List ℕ
-cables-bytes d = cable-bytes (d .cables) ++ replicate (60 - 3 * length (d .cables)) 0
+cables-bytes d = cable-bytes (d .cables) ++ (replicate (60 - 3 * length (d .cables)) 0 ++ (0 ∷ []))
 
-kinds-apart : (d : Drawing) → drawing-bytes d ≡ by-kinds (length (d .cables)) (cables-bytes d) (devices d) (d .kinds)
+kinds-apart : (d : Drawing) → drawing-bytes 0 d ≡ by-kinds (length (d .cables)) (cables-bytes d) (devices d) (d .kinds)
 unfolding drawing-bytes cables-bytes
 kinds-apart d = simp append-assoc
 
-pub device-written : (d : Drawing) (k : ℕ) → devices d < 10 → write-device (devices d) k (drawing-bytes d) ≡ drawing-bytes (device-more d k)
+pub device-written : (d : Drawing) (k : ℕ) → devices d < 10 → write-device (devices d) k (drawing-bytes 0 d) ≡ drawing-bytes 0 (device-more d k)
 unfolding cables-bytes
 device-written d k h =
     let m = length (d .cables) in
@@ -118,7 +118,7 @@ cable-bytes-snoc (b ∷ cs) c = ap {B = List ℕ} (λ bs. b .a ∷ b .b ∷ b .k
 
 -- a record by the bytes of its m cables; ks are the ten kind bytes
 abbrev by-cables : (n : ℕ) → (ks : List ℕ) → (m : ℕ) → List ℕ → List ℕ
-by-cables n ks m bs = n ∷ m ∷ (ks ++ (bs ++ replicate (60 - 3 * m) 0))
+by-cables n ks m bs = n ∷ m ∷ (ks ++ (bs ++ (replicate (60 - 3 * m) 0 ++ (0 ∷ []))))
 
 cable-stored :
     (n : ℕ) (ks : List ℕ) (m : ℕ) (bs : List ℕ) (e : Rec) → length ks ≡ 10 → length bs ≡ 3 * m → m < 20
@@ -129,7 +129,7 @@ cable-stored n ks m bs e ten size h =
     let one : length p + 1 ≡ suc (length p) = omega arith in
     let two : length p + 2 ≡ suc (suc (length p)) = omega arith in
     rw (three, here, one, two, ← append-assoc ks bs)
-    (overwrite p (0 ∷ 0 ∷ 0 ∷ []) (e .i ∷ e .j ∷ e .c ∷ []) (replicate (60 - 3 * (m + 1)) 0) refl
+    (overwrite p (0 ∷ 0 ∷ 0 ∷ []) (e .i ∷ e .j ∷ e .c ∷ []) (replicate (60 - 3 * (m + 1)) 0 ++ (0 ∷ [])) refl
     ∙ ap (λ (l : List ℕ). n ∷ (m + 1) ∷ l) (append-assoc ks bs _ ∙ ap (λ (l : List ℕ). ks ++ l) (sym (append-assoc bs _ _))))
   where
     p : List ℕ
@@ -145,13 +145,13 @@ kinds-ten : (d : Drawing) → devices d ≤ 10 → length (kinds-bytes d) ≡ 10
 unfolding kinds-bytes
 kinds-ten d h = simp (length-append, length-replicate) (omega arith)
 
-cables-apart : (d : Drawing) → drawing-bytes d ≡ by-cables (devices d) (kinds-bytes d) (length (d .cables)) (cable-bytes (d .cables))
+cables-apart : (d : Drawing) → drawing-bytes 0 d ≡ by-cables (devices d) (kinds-bytes d) (length (d .cables)) (cable-bytes (d .cables))
 unfolding drawing-bytes kinds-bytes
 cables-apart d = simp append-assoc
 
 pub cable-written :
     (d : Drawing) (e : Rec) → devices d ≤ 10 → length (d .cables) < 20
-    → write-cable (length (d .cables)) e (drawing-bytes d) ≡ drawing-bytes (cable-more d (cable-of e))
+    → write-cable (length (d .cables)) e (drawing-bytes 0 d) ≡ drawing-bytes 0 (cable-more d (cable-of e))
 unfolding cable-of kinds-bytes
 cable-written d e h g =
     let cs = d .cables in

@@ -1,4 +1,4 @@
-// Decoding: the drawing that a code describes, as its record of 72 bytes.
+// Decoding: the drawing that a code describes, as its record of 73 bytes.
 use code_checks::answer::Written;
 use code_checks::check::check_code;
 use code_checks::check::is_lone;
@@ -17,7 +17,7 @@ ghost use Rattle.decoding.specs.Decoding.{write-device, write-cable, wri
 
 // The next device of a record under work: it has as many as its number says.
 fn write_device(drawing: &mut [u8], v: usize, kind: u8)
-    requires { ⌜ (v < 10) × (length (now drawing) ≡ 72) ⌝ }
+    requires { ⌜ (v < 10) × (length (now drawing) ≡ 73) ⌝ }
     ensures { λ _. ⌜ now (drawing .exit) ≡ write-device v kind (now (drawing .entry)) ⌝ }
 {
     drawing[0] = (v + 1) as u8;
@@ -26,7 +26,7 @@ fn write_device(drawing: &mut [u8], v: usize, kind: u8)
 
 // The next cable of a record under work, ends as i then j: it has k.
 fn write_cable(drawing: &mut [u8], k: usize, next: Record)
-    requires { ⌜ (k < 20) × (length (now drawing) ≡ 72) ⌝ }
+    requires { ⌜ (k < 20) × (length (now drawing) ≡ 73) ⌝ }
     ensures { λ _. ⌜ now (drawing .exit) ≡ write-cable k (as-rec next) (now (drawing .entry)) ⌝ }
 {
     let at = Drawing::CABLES_AT + Drawing::CABLE_BYTES * k;
@@ -60,7 +60,7 @@ fn write_steps(code: &[u8], drawing: &mut [u8])
     }
 }
 
-// The whole record of the drawing: unused bytes stay zero.
+// The whole record of the drawing: unused bytes stay zero, and so does the crane.
 fn write_drawing(code: &[u8], drawing: &mut [u8])
     requires { ⌜ Can-write (now code) (now drawing) ⌝ }
     ensures { λ _. ⌜ now (drawing .exit) ≡ decoded-bytes (now (code .entry)) ⌝ }

@@ -9,9 +9,9 @@ use lib.Dec.{ltb, lit<, lit≤}
 use lib.ListN.{length}
 use Rattle.graphs.specs.Drawing.{Drawing}
 use Rattle.graphs.specs.Survey as surveys
-use Rattle.graphs.specs.Survey.{survey, survey-refusal}
+use Rattle.graphs.specs.Survey.{survey, cranes, survey-refusal}
 use Rattle.codes.specs.Code.{kinds-before}
-use Rattle.growth.specs.Catalogue.{Entry, List-of, Often, support-in}
+use Rattle.growth.specs.Catalogue.{Entry, List-of, Often-in, support-of}
 use Rattle.books.specs.Book.{Small, unsupported, book-refusal}
 use Rattle.books.specs.BookSettings.{settings-fit}
 use Rattle.books.specs.BookCount.{book-most}
@@ -99,7 +99,7 @@ module _ (f : surveys.Refusal) (Wanted : Drawing → Type 0) (figure : Drawing �
 -- FROM C: 12, 13, 1, 14, then 2 to 8 with the drawing; then 15; or the number of entries, at most 8,446,368
 pub c-catalogue-refused : (bs : List ℕ) (s l x : ℕ) (o z : List ℕ) → Catalogue-returns bs s l x o z → Catalogue-returned bs s l x o z
 c-catalogue-refused bs s l x o z c =
-    c-list-refused (survey-refusal bs s l) (Often (survey bs) s) (support-in (survey bs)) l 8446368 (λ e es k. catalogue-most bs s l es e k) (lit< tt)
+    c-list-refused (survey-refusal bs s l) (Often-in bs s) (support-of bs) l 8446368 (λ e es k. catalogue-most bs s l es e k) (lit< tt)
     (c .answer) x (c .number) o z (c .says)
 
 -- 16, 17; then 15; or the number of entries, far below 2^32

@@ -7,12 +7,12 @@ use Prim.Native.Nat.{ℕ, _*_, _≤_}
 use lib.ListN.{length, drop}
 use lib.Seq.{take-at}
 use borrow.Author.Tests.{le-ltb}
-use Rattle.graphs.specs.Drawing.{Drawing, drawing-in, drawing-bytes, drawing-refusal, byte-list, accepted}
+use Rattle.graphs.specs.Drawing.{Drawing, drawing-in, crane-in, drawing-bytes, drawing-refusal, byte-list, accepted}
 use Rattle.graphs.specs.Map.{Same}
 use Rattle.graphs.specs.Embedding.{Ends-in-range}
 use Rattle.graphs.specs.Isomorphisms.{same-by-means}
 use Rattle.graphs.specs.Graph.{Section}
-use Rattle.graphs.specs.DrawingBytes.{drawing-in-bytes, drawing-bytes-accepted}
+use Rattle.graphs.specs.DrawingBytes.{drawing-in-bytes, crane-in-bytes, drawing-bytes-accepted}
 use Rattle.graphs.specs.Patterns.{accepted-section}
 use Rattle.codes.specs.Code.{Rec, code-records, rec-bytes}
 use Rattle.codes.specs.Decoded.{rows-bytes}
@@ -44,7 +44,7 @@ module _ (d e : Drawing) (here : Ends-in-range d) (there : Ends-in-range e) wher
   same-from-mapped m = (m .0, same-by-means d e (m .0) here there .1 (m .1))
 
 -- DECODING an accepted code into bytes enough
-module _ (bs : List ℕ) (r : Written) (o z : List ℕ) (fine : section-code-refusal bs ≡ 0) (room : 72 ≤ length o) (says : Decode-says bs r o z) where
+module _ (bs : List ℕ) (r : Written) (o z : List ℕ) (fine : section-code-refusal bs ≡ 0) (room : 73 ≤ length o) (says : Decode-says bs r o z) where
   abbrev rs : List Rec
   rs = code-records bs
 
@@ -58,17 +58,22 @@ module _ (bs : List ℕ) (r : Written) (o z : List ℕ) (fine : section-code-ref
   pub code-drawn : Drawn rs r o z
   code-drawn =
       let few = row-few rs good in
-      record { bytes = bytes; drawing = ap drawing-in bytes ∙ drawing-in-bytes (section-of rs) (few .0) (few .1); output = output }
+      record {
+        bytes = bytes;
+        drawing = ap drawing-in bytes ∙ drawing-in-bytes 0 (section-of rs) (few .0) (few .1);
+        crane = ap crane-in bytes ∙ crane-in-bytes 0 (section-of rs) (few .0) (few .1);
+        output = output;
+      }
     where
-      answer : r ≡ Bytes (length (drawing-bytes (section-of rs)))
-      answer = says .answer ∙ ap (λ (c : Checked). put-answer c (drawing-bytes (section-of rs))) decoding-accepted
+      answer : r ≡ Bytes (length (drawing-bytes 0 (section-of rs)))
+      answer = says .answer ∙ ap (λ (c : Checked). put-answer c (drawing-bytes 0 (section-of rs))) decoding-accepted
 
-      output : z ≡ in-front (drawing-bytes (section-of rs)) o
-      output = says .output ∙ ap (λ (c : Checked). put-bytes c (drawing-bytes (section-of rs)) o) decoding-accepted
+      output : z ≡ in-front (drawing-bytes 0 (section-of rs)) o
+      output = says .output ∙ ap (λ (c : Checked). put-bytes c (drawing-bytes 0 (section-of rs)) o) decoding-accepted
 
-      bytes : written-bytes r z ≡ drawing-bytes (section-of rs)
-      bytes = rw (answer, output) (take-at (drawing-bytes (section-of rs)) (drop (length (drawing-bytes (section-of rs))) o)
-          (length (drawing-bytes (section-of rs))) refl)
+      bytes : written-bytes r z ≡ drawing-bytes 0 (section-of rs)
+      bytes = rw (answer, output) (take-at (drawing-bytes 0 (section-of rs)) (drop (length (drawing-bytes 0 (section-of rs))) o)
+          (length (drawing-bytes 0 (section-of rs))) refl)
 
   -- of a code of bytes, it is an accepted drawing that has the code
   module _ (bytes : byte-list bs ≡ true) where
@@ -77,14 +82,14 @@ module _ (bs : List ℕ) (r : Written) (o z : List ℕ) (fine : section-code-ref
     described = row-section rs good (rw (accepted-section-code bs fine .bytes) bytes)
 
     pub drawn-accepted : drawing-refusal (written-bytes r z) ≡ 0
-    drawn-accepted = ap drawing-refusal (code-drawn .bytes) ∙ drawing-bytes-accepted (section-of rs) described
+    drawn-accepted = ap drawing-refusal (code-drawn .bytes) ∙ drawing-bytes-accepted 0 (section-of rs) described
 
     pub drawn-coded : Section-code (drawing-in (written-bytes r z)) rs
     drawn-coded = rw (code-drawn .drawing) (row-coded rs good)
 
 -- EVERY CODE of a drawing decodes to that drawing
 pub code-decodes : (xs : List ℕ) (rs : List Rec) → accepted xs ≡ true → Section-code (drawing-in xs) rs → (r : Written) (o z : List ℕ)
-    → 72 ≤ length o → Decode-says (rec-bytes rs) r o z → Mapped (drawing-in (written-bytes r z)) (drawing-in xs)
+    → 73 ≤ length o → Decode-says (rec-bytes rs) r o z → Mapped (drawing-in (written-bytes r z)) (drawing-in xs)
 code-decodes xs rs a c r o z room says =
     let simple = accepted-section xs a .simple in
     let d = code-drawn (rec-bytes rs) r o z (records-accepted rs (c .good)) room says in

@@ -105,22 +105,22 @@ module _ (bs : List ℕ) (bytes : byte-list bs ≡ true) (fine : section-code-re
   checked-fine : section-code-checked bs ≡ Accepted
   checked-fine = section-accepted-checked bs fine
 
-  -- decoded into 72 bytes or more, then coded into as many bytes as the code has, or more
-  module _ (o p : List ℕ) (room : 72 ≤ length o) (space : length bs ≤ length p)
+  -- decoded into 73 bytes or more, then coded into as many bytes as the code has, or more
+  module _ (o p : List ℕ) (room : 73 ≤ length o) (space : length bs ≤ length p)
       (z w : List ℕ) (r s : Written) (decoding : Decode-says bs r o z) (coding : Code-says (written-bytes r z) s p w) where
-    drawn : written-bytes r z ≡ drawing-bytes (section-of rs)
+    drawn : written-bytes r z ≡ drawing-bytes 0 (section-of rs)
     unfolding decode-checked
     drawn =
         let c : decode-checked bs o ≡ Accepted = rw (checked-fine, le-ltb _ _ room) in
-        bytes-in-front (drawing-bytes (section-of rs)) o z r
-        (decoding .answer ∙ ap (λ (k : Checked). put-answer k (drawing-bytes (section-of rs))) c)
-        (decoding .output ∙ ap (λ (k : Checked). put-bytes k (drawing-bytes (section-of rs)) o) c)
+        bytes-in-front (drawing-bytes 0 (section-of rs)) o z r
+        (decoding .answer ∙ ap (λ (k : Checked). put-answer k (drawing-bytes 0 (section-of rs))) c)
+        (decoding .output ∙ ap (λ (k : Checked). put-bytes k (drawing-bytes 0 (section-of rs)) o) c)
 
     back : drawing-in (written-bytes r z) ≡ section-of rs
-    back = ap drawing-in drawn ∙ drawing-in-bytes (section-of rs) (described .devices-high) (described .cables-high)
+    back = ap drawing-in drawn ∙ drawing-in-bytes 0 (section-of rs) (described .devices-high) (described .cables-high)
 
     acceptable : drawing-refusal (written-bytes r z) ≡ 0
-    acceptable = ap drawing-refusal drawn ∙ drawing-bytes-accepted (section-of rs) described
+    acceptable = ap drawing-refusal drawn ∙ drawing-bytes-accepted 0 (section-of rs) described
 
     enough : 5 * section-records (drawing-in (written-bytes r z)) ≤ length p
     enough =

@@ -1,5 +1,5 @@
--- THE THREE DEMANDS, and the rules of matching, of the order, of lone sections and of the book: each a record of statements over the bytes that
--- a caller sees, and a theorem that proves it. A statement's hypothesis is what the contract of a public entry says of its answer: `Code-says`,
+-- THE THREE DEMANDS, and the rules of matching, of the order, of lone sections, of cranes and of the book: each a record of statements over the
+-- bytes that a caller sees, and a theorem that proves it. A statement's hypothesis is what the contract of a public entry says of its answer: `Code-says`,
 -- `Decode-says`, `Catalogue-says` and so on, from C `Code-returns` and its fellows. It holds of whatever the call answers (r, v or
 -- t), where the lent output was o before the call and is z after it. Terms.antt has the terms that only these statements need. That
 -- an answer and every lent byte follow from the input is in Determined.antt. Assumes nothing.
@@ -10,18 +10,21 @@ use Prim.Native.Nat.{ℕ, _*_, _≤_, _<_}
 use lib.Dec.{eqb}
 use lib.ListN.{length, getD}
 use denote.Ref.{RefT}
+use Rattle.laws.specs.Counting.{Different}
 use Rattle.graphs.specs.Drawing.{
   Drawing,
   devices,
   kind,
   drawing-in,
+  crane-in,
   drawing-bytes,
   drawing-refusal,
   byte-list,
   accepted,
 }
-use Rattle.graphs.specs.Graph.{lone-drawing}
-use Rattle.graphs.specs.Survey.{survey, length-refusal, bytes-refusal}
+use Rattle.graphs.specs.Graph.{Section, lone-drawing}
+use Rattle.graphs.specs.DrawingBytes.{drawing-in-bytes, crane-in-bytes, drawing-bytes-in, drawing-bytes-accepted}
+use Rattle.graphs.specs.Survey.{survey, cranes, length-refusal, bytes-refusal}
 use Rattle.codes.specs.Code.{Rec, fresh, rows-refusal, rec-bytes, code-records, before}
 use Rattle.codes.specs.SectionCode.{
   lone-bytes,
@@ -93,6 +96,10 @@ use Rattle.demands.specs.Terms.{
   Drawn,
   Order-clauses,
   Contained,
+  Supported,
+  Drawings-with,
+  Catalogue-one-by-one,
+  Sheets-alike,
   Least-map-written,
   Lone-mapped,
   No-device,
@@ -101,6 +108,8 @@ use Rattle.demands.specs.Terms.{
   Whole-book,
 }
 use Rattle.demands.specs.RefusedLaws as refused
+use Rattle.demands.specs.CraneRules as sheets
+use Rattle.demands.specs.Supports.{supports-fall, supports-same, cranes-at-most, cranes-all}
 use Rattle.demands.specs.EntryRefusals as entries
 use Rattle.demands.specs.CatalogueNumbers.{c-catalogue-refused, c-book-refused}
 use Rattle.demands.specs.Coding.{accepted-refusal, code-is-least, back-exactly-least, yes-exactly-back}
@@ -139,7 +148,7 @@ pub record First-demand : Type 0 where
       → Refused-as (first-of (drawing-refusal xs) (too-short (5 * section-records (drawing-in xs)) o))
       (written-numbers r .refusal) (written-numbers r .count) o z
   pub decode : (bs : List ℕ) (r : Written) (o z : List ℕ) → Decode-says bs r o z
-      → Refused-as (first-of (section-code-refusal bs) (too-short 72 o)) (written-numbers r .refusal) (written-numbers r .count) o z
+      → Refused-as (first-of (section-code-refusal bs) (too-short 73 o)) (written-numbers r .refusal) (written-numbers r .count) o z
   pub is-least : (bs : List ℕ) (v : Verdict) → Least-says bs v
       → Refused-as (section-code-refusal bs) (verdict-numbers v .refusal) (verdict-numbers v .count) [] []
   pub compare : (xs ys : List ℕ) (r : Compared) → Compare-says xs ys r
@@ -159,7 +168,7 @@ pub record First-demand : Type 0 where
   pub c-code : (xs : List ℕ) (x : ℕ) (o z : List ℕ) (c : Code-returns xs x o z)
       → Returned-as (first-of (drawing-refusal xs) (too-short (5 * section-records (drawing-in xs)) o)) x (written-numbers (c .answer) .count) o z
   pub c-decode : (bs : List ℕ) (x : ℕ) (o z : List ℕ) (c : Decode-returns bs x o z)
-      → Returned-as (first-of (section-code-refusal bs) (too-short 72 o)) x (written-numbers (c .answer) .count) o z
+      → Returned-as (first-of (section-code-refusal bs) (too-short 73 o)) x (written-numbers (c .answer) .count) o z
   pub c-is-least : (bs : List ℕ) (x : ℕ) (c : Least-returns bs x) → Returned-as (section-code-refusal bs) x (verdict-numbers (c .answer) .count) [] []
   pub c-compare : (xs ys : List ℕ) (x : ℕ) (c : Compare-returns xs ys x)
       → Returned-as (first-of (section-code-refusal xs) (section-code-refusal ys)) x (compared-numbers (c .answer) .count) [] []
@@ -207,7 +216,7 @@ pub record Coding-call (xs : List ℕ) (r : Written) (o z : List ℕ) : Type 0 w
 pub record Decoding-call (bs : List ℕ) (r : Written) (o z : List ℕ) : Type 0 where
   pub bytes : byte-list bs ≡ true
   pub code : section-code-refusal bs ≡ 0
-  pub room : 72 ≤ length o
+  pub room : 73 ≤ length o
   pub says : Decode-says bs r o z
 
 -- a code decoded, and what it decodes to coded again
@@ -227,7 +236,7 @@ pub record Second-demand : Type 0 where
   -- every row of 1 to 20 records that reads as a code is accepted, and if it is one of an accepted drawing it decodes to that drawing
   pub every-code : (rs : List Rec) → records-good rs ≡ true → section-code-refusal (rec-bytes rs) ≡ 0
   pub every-code-decodes : (xs : List ℕ) (rs : List Rec) → accepted xs ≡ true → Section-code (drawing-in xs) rs
-      → (r : Written) (o z : List ℕ) → 72 ≤ length o → Decode-says (rec-bytes rs) r o z → Mapped (drawing-in (written-bytes r z)) (drawing-in xs)
+      → (r : Written) (o z : List ℕ) → 73 ≤ length o → Decode-says (rec-bytes rs) r o z → Mapped (drawing-in (written-bytes r z)) (drawing-in xs)
   -- coding what a code decodes to gives the code back exactly when it was the least, and the least test answers yes exactly then
   pub back-when-least : {bs : List ℕ} {r s : Written} {o p z w : List ℕ} → Round-call bs r s o p z w
       → (written-bytes s w ≡ bs → Least-section (section-of (code-records bs)) (code-records bs))
@@ -262,7 +271,7 @@ pub record Third-demand : Type 0 where
   pub same-tells : {xs ys : List ℕ} {r s : Written} {o p z w : List ℕ} → Coding-call xs r o z → Coding-call ys s p w
       → (t : Sameness) → Same-says xs ys t
       → (t ≡ sameness.Yes → written-bytes r z ≡ written-bytes s w) × (written-bytes r z ≡ written-bytes s w → t ≡ sameness.Yes)
-  -- a catalogue that is written to its end: each pattern of 1 to l cables that at least s drawings contain has just one entry,
+  -- a catalogue that is written to its end: each pattern of 1 to l cables that drawings of at least s cranes contain has just one entry,
   -- with its least code and its support, there is no other entry, and codes rise (`Whole-catalogue`, field by field)
   pub catalogue : (bs : List ℕ) (s l n : ℕ) (o z : List ℕ) → Catalogue-says bs s l (Entries n) o z → Whole-catalogue bs s l n o z
 
@@ -312,14 +321,14 @@ order-rule =
 
 -- LONE SECTIONS, one device without cables: what the demands and the rules come to for them
 pub record Lone-rule : Type 0 where
-  -- the record of one device of any kind is accepted; one with cables is refused 3, and so are 2 to 10 devices without
-  pub accepted-lone : (k : ℕ) → k < 256 → accepted (drawing-bytes (lone-drawing k)) ≡ true
-  pub cables-refused : (xs : List ℕ) → length xs ≡ 72 → getD xs 0 0 ≡ 1 → 0 < getD xs 1 0 → drawing-refusal xs ≡ 3
-  pub none-refused : (xs : List ℕ) → length xs ≡ 72 → 2 ≤ getD xs 0 0 → getD xs 0 0 ≤ 10 → getD xs 1 0 ≡ 0 → drawing-refusal xs ≡ 3
+  -- the record of one device of any kind, a sheet of any crane, is accepted; one with cables is refused 3, and so are 2 to 10 devices without
+  pub accepted-lone : (c k : ℕ) → c < 256 → k < 256 → accepted (drawing-bytes c (lone-drawing k)) ≡ true
+  pub cables-refused : (xs : List ℕ) → length xs ≡ 73 → getD xs 0 0 ≡ 1 → 0 < getD xs 1 0 → drawing-refusal xs ≡ 3
+  pub none-refused : (xs : List ℕ) → length xs ≡ 73 → 2 ≤ getD xs 0 0 → getD xs 0 0 ≤ 10 → getD xs 1 0 ≡ 0 → drawing-refusal xs ≡ 3
   -- its code is the record 0, 0, k, 0, k, and that decodes to it
   pub code-is : {xs : List ℕ} {r : Written} {o z : List ℕ} → Coding-call xs r o z → drawing-in xs .cables ≡ []
       → written-bytes r z ≡ lone-five (kind (drawing-in xs) 0)
-  pub decodes-to : (k : ℕ) (r : Written) (o z : List ℕ) → 72 ≤ length o → Decode-says (lone-five k) r o z
+  pub decodes-to : (k : ℕ) (r : Written) (o z : List ℕ) → 73 ≤ length o → Decode-says (lone-five k) r o z
       → drawing-in (written-bytes r z) ≡ lone-drawing k
   -- alone, it is refused 10 (`Step`) for a cable kind and 11 (`Kind`) for unequal kinds; 0, 0 before, behind or among other records is
   -- refused 10 at its own number
@@ -352,8 +361,10 @@ pub record Lone-rule : Type 0 where
   pub survey-empty : (bs : List ℕ) (s l n : ℕ) (o z : List ℕ)
       → ((k : ℕ) (none : Drawing) → k < length (survey bs) → getD (survey bs) k none .cables ≡ [])
       → Catalogue-says bs s l (Entries n) o z → n ≡ 0
-  pub adds-none : (ds es : List Drawing) (d : Drawing) (s l : ℕ) (gs : List Entry) → d .cables ≡ []
-      → (Catalogue (ds ++ (d ∷ es)) s l gs → Catalogue (ds ++ es) s l gs) × (Catalogue (ds ++ es) s l gs → Catalogue (ds ++ (d ∷ es)) s l gs)
+  pub adds-none : (ks ls : List ℕ) (c : ℕ) (ds es : List Drawing) (d : Drawing) (s l : ℕ) (gs : List Entry) → length ks ≡ length ds
+      → d .cables ≡ []
+      → (Catalogue (ks ++ (c ∷ ls)) (ds ++ (d ∷ es)) s l gs → Catalogue (ks ++ ls) (ds ++ es) s l gs)
+      × (Catalogue (ks ++ ls) (ds ++ es) s l gs → Catalogue (ks ++ (c ∷ ls)) (ds ++ (d ∷ es)) s l gs)
 
 pub lone-rule : Lone-rule
 lone-rule =
@@ -376,6 +387,60 @@ lone-rule =
       supports-none = supports-none;
       survey-empty = survey-empty;
       adds-none = lone-adds-none;
+    }
+
+-- THE RULE OF CRANES: byte 72 of a drawing's record is the number of its crane, any value, which support counts by and nothing else looks at
+pub record Crane-rule : Type 0 where
+  -- a record is the drawing and the crane that are read from it, and each section is accepted as a sheet of any crane
+  pub read-back : (k : ℕ) (d : Drawing) → Section d → (drawing-in (drawing-bytes k d) ≡ d) × (crane-in (drawing-bytes k d) ≡ k)
+  pub written-back : (xs : List ℕ) → drawing-refusal xs ≡ 0 → drawing-bytes (crane-in xs) (drawing-in xs) ≡ xs
+  pub accepted-as : (k : ℕ) (d : Drawing) → Section d → drawing-refusal (drawing-bytes k d) ≡ 0
+  -- sheets of two cranes that differ in nothing else: refused alike; equal answers and equal bytes in coding; alike in matching, as pattern and as
+  -- drawing, and in sameness, as first and as second; and they are the same
+  pub refused : {xs ys : List ℕ} → Sheets-alike xs ys → drawing-refusal xs ≡ drawing-refusal ys
+  pub coded : {xs ys : List ℕ} → Sheets-alike xs ys → (o z w : List ℕ) (r s : Written) → Code-says xs r o z → Code-says ys s o w
+      → (r ≡ s) × (z ≡ w)
+  pub as-pattern : {xs ys : List ℕ} → Sheets-alike xs ys → (ds o z w : List ℕ) (r s : Matched) → Match-says xs ds r o z → Match-says ys ds s o w
+      → (r ≡ s) × (z ≡ w)
+  pub as-drawing : {xs ys : List ℕ} → Sheets-alike xs ys → (ps o z w : List ℕ) (r s : Matched) → Match-says ps xs r o z → Match-says ps ys s o w
+      → (r ≡ s) × (z ≡ w)
+  pub as-first : {xs ys : List ℕ} → Sheets-alike xs ys → (ds : List ℕ) (t u : Sameness) → Same-says xs ds t → Same-says ys ds u → t ≡ u
+  pub as-second : {xs ys : List ℕ} → Sheets-alike xs ys → (ds : List ℕ) (t u : Sameness) → Same-says ds xs t → Same-says ds ys u → t ≡ u
+  pub same : {xs ys : List ℕ} → Sheets-alike xs ys → (t : Sameness) → drawing-refusal xs ≡ 0 → Same-says xs ys t → t ≡ sameness.Yes
+  -- support falls with containment, looks at the pattern up to a map alone, is at most the number of drawings that contain it, and just that
+  -- where all cranes differ
+  pub falls : (p q : Drawing) → Section p → Contained p q → (cr : List ℕ) (ds : List Drawing) (m n : ℕ)
+      → Supported p cr ds m → Supported q cr ds n → n ≤ m
+  pub mapped : (p q : Drawing) → Section p → Section q → Mapped p q → (cr : List ℕ) (ds : List Drawing) (m n : ℕ)
+      → Supported p cr ds m → Supported q cr ds n → m ≡ n
+  pub at-most : (p : Drawing) → Section p → (cr : List ℕ) (ds : List Drawing) → length cr ≡ length ds → (m n : ℕ)
+      → Supported p cr ds m → Drawings-with p ds n → m ≤ n
+  pub all-differ : (p : Drawing) → Section p → (cr : List ℕ) (ds : List Drawing) → length cr ≡ length ds → (m n : ℕ)
+      → Supported p cr ds m → Drawings-with p ds n → Different cr → m ≡ n
+  -- so a survey with drawing d as crane d has the entries that drawings counted one by one give
+  pub old-kept : (bs : List ℕ) → ((d : ℕ) → d < length (survey bs) → getD (cranes bs) d 256 ≡ d) → (s l : ℕ) (es : List Entry)
+      → (Catalogue (cranes bs) (survey bs) s l es → Catalogue-one-by-one (survey bs) s l es)
+      × (Catalogue-one-by-one (survey bs) s l es → Catalogue (cranes bs) (survey bs) s l es)
+
+pub crane-rule : Crane-rule
+crane-rule =
+    record {
+      read-back = λ k d s. (drawing-in-bytes k d (s .devices-high) (s .cables-high), crane-in-bytes k d (s .devices-high) (s .cables-high));
+      written-back = drawing-bytes-in;
+      accepted-as = drawing-bytes-accepted;
+      refused = sheets.refused-alike;
+      coded = sheets.code-alike;
+      as-pattern = sheets.pattern-alike;
+      as-drawing = sheets.drawing-alike;
+      as-first = sheets.first-alike;
+      as-second = sheets.second-alike;
+      same = sheets.sheets-same;
+      falls = λ p q s. supports-fall p q (s .simple .ends);
+      mapped = λ p q s t m. supports-same p q (s .simple .ends) (t .simple .ends) (sheets.mapped-contained p q s t m .0)
+          (sheets.mapped-contained p q s t m .1);
+      at-most = λ p s. cranes-at-most p (s .simple .ends);
+      all-differ = λ p s. cranes-all p (s .simple .ends);
+      old-kept = λ bs numbered s l es. (sheets.catalogue-kept bs numbered s l es, sheets.kept-catalogue bs numbered s l es);
     }
 
 -- THE RULE OF THE BOOK, as the third demand has it of a catalogue: each pattern of 1 to l cables with device kinds below a and cable kinds below

@@ -17,12 +17,12 @@ use Rattle.laws.specs.Rows.{row}
 use Rattle.graphs.specs.Drawing.{Drawing, devices, drawing-in, drawing-refusal}
 use Rattle.graphs.specs.Map.{least-map}
 use Rattle.graphs.specs.Survey as surveys
-use Rattle.graphs.specs.Survey.{survey, length-refusal, bytes-refusal, survey-refusal, drawing-count}
+use Rattle.graphs.specs.Survey.{survey, cranes, length-refusal, bytes-refusal, survey-refusal, drawing-count}
 use Rattle.codes.specs.Code.{Rec, code-records, kinds-before}
 use Rattle.codes.specs.CodeOrder.{kinds-order}
 use Rattle.codes.specs.SectionCodes.{least-section-unique}
 use Rattle.codes.specs.SectionCode.{section-records}
-use Rattle.growth.specs.Catalogue.{Entry, Often, support-in}
+use Rattle.growth.specs.Catalogue.{Entry, Often-in, support-of}
 use Rattle.growth.specs.FamilyLists.{list-unique}
 use Rattle.books.specs.Book.{Small, unsupported, book-refusal}
 use Rattle.records.specs.declared.refusal.Refusal.{Refusal}
@@ -265,7 +265,7 @@ list-determined f plain-number Wanted figure l o z w r s = go (f .number) refl
 
 pub catalogue-determined :
     (bs : List ℕ) (t l : ℕ) (o z w : List ℕ) (r s : Catalogued) → Catalogue-says bs t l r o z → Catalogue-says bs t l s o w → Agree r s z w
-catalogue-determined bs t l = list-determined (survey-refusal bs t l) (survey-plain bs t l) (Often (survey bs) t) (support-in (survey bs)) l
+catalogue-determined bs t l = list-determined (survey-refusal bs t l) (survey-plain bs t l) (Often-in bs t) (support-of bs) l
 
 -- THE BOOK
 pub book-determined :
@@ -303,7 +303,7 @@ fetch-determined bs r s a b d f g fetch other = go (test (ltb 0 (length-refusal 
     go (inr h) (inl t) =
         let none : length-refusal (now bs) ≡ 0 = omega (arith, ltb-false 0 (length-refusal (now bs)) h) in
         let below = ltb-true d (drawing-count (now bs)) t in
-        gives-one 0 (plain 0 refl refl) (row 72 d (now bs)) f g (fetched-drawing a fetch none below) (fetched-drawing b other none below)
+        gives-one 0 (plain 0 refl refl) (row 73 d (now bs)) f g (fetched-drawing a fetch none below) (fetched-drawing b other none below)
     go (inr h) (inr t) =
         let none : length-refusal (now bs) ≡ 0 = omega (arith, ltb-false 0 (length-refusal (now bs)) h) in
         let past = ltb-false d (drawing-count (now bs)) t in

@@ -73,7 +73,7 @@ pub check-survey-refused : (bs : List ℕ) (r : SurveyChecked) → Survey-answer
 unfolding surveys.refusal
 check-survey-refused bs r a = record { one = a .refusal; counted = λ z. go r refl (a .refusal) z }
   where
-    go : (s : SurveyChecked) → r ≡ s → survey-checked s ≡ bytes-refusal bs → bytes-refusal bs .number ≡ 0 → r ≡ Accepted (length bs / 72)
+    go : (s : SurveyChecked) → r ≡ s → survey-checked s ≡ bytes-refusal bs → bytes-refusal bs .number ≡ 0 → r ≡ Accepted (length bs / 73)
     go (Accepted n) e f z = e ∙ ap Accepted (a .drawings n e)
     go (Refused x d) e f z = absurd (omega (arith, number-positive x, ap (λ (y : surveys.Refusal). y .number) f, z))
 
@@ -111,7 +111,7 @@ pub c-code-refused : (xs : List ℕ) (x : ℕ) (o z : List ℕ) (c : Code-return
 c-code-refused xs x o z c = returned-as _ _ _ x o z (code-tells c) (code-turned-back xs (c .answer) o z (c .says))
 
 pub c-decode-refused : (bs : List ℕ) (x : ℕ) (o z : List ℕ) (c : Decode-returns bs x o z)
-    → Returned-as (first-of (section-code-refusal bs) (too-short 72 o)) x (written-numbers (c .answer) .count) o z
+    → Returned-as (first-of (section-code-refusal bs) (too-short 73 o)) x (written-numbers (c .answer) .count) o z
 c-decode-refused bs x o z c = returned-as _ _ _ x o z (decode-tells c) (decode-turned-back bs (c .answer) o z (c .says))
 
 pub c-least-refused : (bs : List ℕ) (x : ℕ) (c : Least-returns bs x)

@@ -24,3 +24,4 @@ pub mod Comparisons
 pub mod OrderClauses
 pub mod LoneRules
 pub mod LoneSurveys
+pub mod CraneRules

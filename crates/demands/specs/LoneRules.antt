@@ -107,25 +107,25 @@ lone-in xs fine none = one-device (drawing-in xs) (parts .device-count ∙ one (
     one (Cables-fit.cabled n m few) = absurd (omega (arith, parts .cable-count, ap length none))
 
 -- THE RECORD of one device
-pub accepted-lone : (k : ℕ) → k < 256 → accepted (drawing-bytes (lone-drawing k)) ≡ true
+pub accepted-lone : (c k : ℕ) → c < 256 → k < 256 → accepted (drawing-bytes c (lone-drawing k)) ≡ true
 unfolding accepted
-accepted-lone k low =
-    and-both (drawing-bytes-byte-list (lone-drawing k) (lone-section k low) (λ u v c h. elim h [ ]))
-    (eq-eqb _ 0 (drawing-bytes-accepted (lone-drawing k) (lone-section k low)))
+accepted-lone c k byte low =
+    and-both (drawing-bytes-byte-list c (lone-drawing k) (lone-section k low) byte (λ u v x h. elim h [ ]))
+    (eq-eqb _ 0 (drawing-bytes-accepted c (lone-drawing k) (lone-section k low)))
 
-module _ (xs : List ℕ) (size : length xs ≡ 72) where
+module _ (xs : List ℕ) (size : length xs ≡ 73) where
   pub lone-with-cables : getD xs 0 0 ≡ 1 → 0 < getD xs 1 0 → drawing-refusal xs ≡ 3
   unfolding drawing-refusal
   lone-with-cables n some =
       let d : getD xs 1 0 ≡ 0 → ⊥ = λ e. omega arith in
-      rw (eq-eqb (length xs) 72 size, n, fit-one 1 (getD xs 1 0) refl, ne-eqb (getD xs 1 0) 0 d)
+      rw (eq-eqb (length xs) 73 size, n, fit-one 1 (getD xs 1 0) refl, ne-eqb (getD xs 1 0) 0 d)
 
   pub none-refused : 2 ≤ getD xs 0 0 → getD xs 0 0 ≤ 10 → getD xs 1 0 ≡ 0 → drawing-refusal xs ≡ 3
   unfolding drawing-refusal
   none-refused two ten none =
       let d : getD xs 0 0 ≡ 1 → ⊥ = λ e. omega arith in
       rw (
-        eq-eqb (length xs) 72 size,
+        eq-eqb (length xs) 73 size,
         le-leb 1 (getD xs 0 0) (omega arith),
         le-leb (getD xs 0 0) 10 ten,
         fit-more (getD xs 0 0) (getD xs 1 0) d,
@@ -210,7 +210,7 @@ code-is xs r o z fine none w =
 
 -- and decoding takes it
 pub decodes-to :
-    (k : ℕ) (r : Written) (o z : List ℕ) → 72 ≤ length o → Decode-says (lone-five k) r o z
+    (k : ℕ) (r : Written) (o z : List ℕ) → 73 ≤ length o → Decode-says (lone-five k) r o z
     → drawing-in (written-bytes r z) ≡ lone-drawing k
 decodes-to k r o z room says =
     code-drawn (lone-five k) r o z (five-fine k) room says .drawing ∙ ap section-of (five-records k) ∙ lone-code-of k

@@ -1,9 +1,9 @@
 -- Drawings without cables in a survey: they support no pattern and add no entry. Rests on the catalogue that the third demand
 -- describes. Assumes nothing.
-use mathlib.Core.Path.{_≡_, refl, sym, ap, subst, _∙_}
-use mathlib.Core.Bool.{Bool, false, cond}
+use mathlib.Core.Path.{_≡_, refl, sym, ap, _∙_}
+use mathlib.Core.Bool.{Bool, true, false}
 use mathlib.Core.List.{List, [], _∷_, _++_}
-use Prim.Native.Nat.{ℕ, zero, suc, _+_, _≤_, _<_}
+use Prim.Native.Nat.{ℕ, zero, suc, _≤_, _<_}
 use native.Mathlib.Omega.{arith}
 use lib.ListN.{length, getD}
 use Rattle.laws.specs.Tests.{false-unless}
@@ -12,10 +12,10 @@ use Rattle.graphs.specs.Drawing.{Cable, Drawing}
 use Rattle.graphs.specs.Map.{contains}
 use Rattle.graphs.specs.Cables.{Has, has-first}
 use Rattle.graphs.specs.Graph.{Pattern}
-use Rattle.graphs.specs.Patterns.{pattern-from-test}
 use Rattle.graphs.specs.LeastMap.{embedding-from-contains}
-use Rattle.graphs.specs.Survey.{survey, containing, count-true, support}
-use Rattle.growth.specs.Catalogue.{Entry, entry, Catalogue}
+use Rattle.graphs.specs.Survey.{survey, cranes, containing, marked-cranes, each-once, support}
+use Rattle.growth.specs.Catalogue.{Entry, support-in, Catalogue}
+use Rattle.growth.specs.FigureLists.{figures-alike}
 use Rattle.growth.specs.Settings.{accepted-settings}
 use Rattle.records.specs.declared.catalogued.Catalogued.the-variants.{Entries}
 use Rattle.mining.specs.CatalogueSays.{Catalogue-says}
@@ -32,20 +32,18 @@ supports-none p d some none (f, e) = go (p .cables) refl
         let h : Has (c .a) (c .b) (c .kind) (p .cables) = rw z (has-first c cs) in
         elim (rw none at (e .cables (c .a) (c .b) (c .kind) h)) [ ]
 
-all-false : (bs : List Bool) → ((k : ℕ) → k < length bs → getD bs k false ≡ false) → count-true bs ≡ 0
-unfolding count-true
-all-false [] h = refl
-all-false (b ∷ bs) h =
-    let rest = all-false bs (λ k g. h (suc k) (omega arith)) in
-    rw (h 0 (omega arith)) (omega (arith, rest))
-
-no-mark : (p : Drawing) (ds : List Drawing) (n : ℕ) → 1 ≤ length (p .cables)
-    → ((k : ℕ) (none : Drawing) → k < length ds → getD ds k none .cables ≡ []) → Supported p ds n → n ≡ 0
-no-mark p ds n some bare w = w .counts ∙ all-false (w .marks) (λ k h. unmarked k (omega (arith, h, w .size)))
+no-crane : (p : Drawing) (cr : List ℕ) (ds : List Drawing) (n : ℕ) → 1 ≤ length (p .cables)
+    → ((k : ℕ) (none : Drawing) → k < length ds → getD ds k none .cables ≡ []) → Supported p cr ds n → n ≡ 0
+no-crane p cr ds n some bare w = w .counts ∙ none-listed (w .numbers) (w .filed)
   where
-    unmarked : (k : ℕ) → k < length ds → getD (w .marks) k false ≡ false
-    unmarked k h =
-        false-unless (getD (w .marks) k false) (λ e. supports-none p (getD ds k p) some (bare k p h) (w .yes k p h e))
+    none-listed :
+        (cs : List ℕ)
+        → ((c : ℕ) → Mem c cs → (k : ℕ) × (k < length ds) × (getD cr k 256 ≡ c) × ((none : Drawing) → Contained p (getD ds k none)))
+        → length cs ≡ 0
+    none-listed [] h = refl
+    none-listed (c ∷ cs) h =
+        let t = h c (Mem.here refl) in
+        absurd (supports-none p (getD ds (t .0) p) some (bare (t .0) p (t .1)) (t .3 p))
 
 -- so a survey of drawings without cables has no entry
 pub survey-empty :
@@ -66,7 +64,7 @@ survey-empty bs s l n o z bare says = go n refl
         let t = whole .list .sound 0 first in
         let f = whole .frequent (t .0) (t .1) 0 first (t .2) in
         let q = whole .support (t .0) (t .1) 0 first (t .2) in
-        absurd (omega (arith, one, f .2, no-mark (t .0) (survey bs) (entry-in 0 z .support) (f .0) bare q))
+        absurd (omega (arith, one, f .2, no-crane (t .0) (cranes bs) (survey bs) (entry-in 0 z .support) (f .0) bare q))
 
 -- A DRAWING WITHOUT CABLES MORE changes no support, so it changes no catalogue
 module _ (d : Drawing) (bare : d .cables ≡ []) where
@@ -74,37 +72,34 @@ module _ (d : Drawing) (bare : d .cables ≡ []) where
   unmarked p w =
       false-unless (contains p d) (λ e. supports-none p d (w .cables-low) bare (embedding-from-contains p d (w .simple .ends) e))
 
-  support-without : (p : Drawing) → Pattern p → (xs ys : List Drawing) → support p (xs ++ (d ∷ ys)) ≡ support p (xs ++ ys)
-  unfolding support containing count-true
-  support-without p w [] ys = rw (unmarked p w) (omega arith)
-  support-without p w (x ∷ xs) ys = ap (λ (n : ℕ). cond (contains p x) 1 0 + n) (support-without p w xs ys)
+  -- whatever its crane
+  cranes-without :
+      (p : Drawing) → Pattern p → (c : ℕ) (ks ls : List ℕ) (xs ys : List Drawing) → length ks ≡ length xs
+      → marked-cranes (ks ++ (c ∷ ls)) (containing p (xs ++ (d ∷ ys))) ≡ marked-cranes (ks ++ ls) (containing p (xs ++ ys))
+  unfolding containing marked-cranes
+  cranes-without p w c [] ls [] ys e = rw (unmarked p w)
+  cranes-without p w c [] ls (x ∷ xs) ys e = absurd (omega arith)
+  cranes-without p w c (k ∷ ks) ls [] ys e = absurd (omega arith)
+  cranes-without p w c (k ∷ ks) ls (x ∷ xs) ys e = go (contains p x) (cranes-without p w c ks ls xs ys (omega arith))
+    where
+      go : (t : Bool) → marked-cranes (ks ++ (c ∷ ls)) (containing p (xs ++ (d ∷ ys))) ≡ marked-cranes (ks ++ ls) (containing p (xs ++ ys))
+          → marked-cranes (k ∷ (ks ++ (c ∷ ls))) (t ∷ containing p (xs ++ (d ∷ ys))) ≡ marked-cranes (k ∷ (ks ++ ls)) (t ∷ containing p (xs ++ ys))
+      go true q = ap (λ (zs : List ℕ). k ∷ zs) q
+      go false q = q
 
--- equal supports make equal catalogues
-same-catalogue :
-    (ds es : List Drawing) (s l : ℕ) (gs : List Entry) → ((p : Drawing) → Pattern p → support p ds ≡ support p es) → Catalogue ds s l gs
-    → Catalogue es s l gs
-same-catalogue ds es s l gs same c =
-    record {
-      rise = c .rise;
-      sound = λ e m.
-          let f = c .sound e m in
-          record {
-            pattern = f .pattern;
-            is-one = f .is-one;
-            least = f .least;
-            size = f .size;
-            support-is = sym (same (f .pattern) (pattern-from-test (f .pattern) (f .is-one))) ∙ f .support-is;
-            wanted = omega (arith, same (f .pattern) (pattern-from-test (f .pattern) (f .is-one)), f .wanted);
-          };
-      whole = λ p rs i h g t.
-          let e = same p (pattern-from-test p i) in
-          subst (λ (n : ℕ). Mem (entry n rs) gs) e (c .whole p rs i h (omega (arith, e)) t);
-    }
+  support-without :
+      (p : Drawing) → Pattern p → (c : ℕ) (ks ls : List ℕ) (xs ys : List Drawing) → length ks ≡ length xs
+      → support p (ks ++ (c ∷ ls)) (xs ++ (d ∷ ys)) ≡ support p (ks ++ ls) (xs ++ ys)
+  unfolding support
+  support-without p w c ks ls xs ys e = ap (λ (zs : List ℕ). length (each-once zs)) (cranes-without p w c ks ls xs ys e)
 
 pub lone-adds-none :
-    (xs ys : List Drawing) (d : Drawing) (s l : ℕ) (gs : List Entry) → d .cables ≡ []
-    → (Catalogue (xs ++ (d ∷ ys)) s l gs → Catalogue (xs ++ ys) s l gs) × (Catalogue (xs ++ ys) s l gs → Catalogue (xs ++ (d ∷ ys)) s l gs)
-lone-adds-none xs ys d s l gs bare = (
-  same-catalogue (xs ++ (d ∷ ys)) (xs ++ ys) s l gs (λ p w. support-without d bare p w xs ys),
-  same-catalogue (xs ++ ys) (xs ++ (d ∷ ys)) s l gs (λ p w. sym (support-without d bare p w xs ys)),
+    (ks ls : List ℕ) (c : ℕ) (xs ys : List Drawing) (d : Drawing) (s l : ℕ) (gs : List Entry) → length ks ≡ length xs → d .cables ≡ []
+    → (Catalogue (ks ++ (c ∷ ls)) (xs ++ (d ∷ ys)) s l gs → Catalogue (ks ++ ls) (xs ++ ys) s l gs)
+    × (Catalogue (ks ++ ls) (xs ++ ys) s l gs → Catalogue (ks ++ (c ∷ ls)) (xs ++ (d ∷ ys)) s l gs)
+lone-adds-none ks ls c xs ys d s l gs sized bare = (
+  figures-alike (support-in (ks ++ (c ∷ ls)) (xs ++ (d ∷ ys))) (support-in (ks ++ ls) (xs ++ ys)) s l gs
+      (λ p w. support-without d bare p w c ks ls xs ys sized),
+  figures-alike (support-in (ks ++ ls) (xs ++ ys)) (support-in (ks ++ (c ∷ ls)) (xs ++ (d ∷ ys))) s l gs
+      (λ p w. sym (support-without d bare p w c ks ls xs ys sized)),
 )

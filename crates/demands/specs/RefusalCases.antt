@@ -99,7 +99,7 @@ drawing-plain bs =
     let n = getD bs 0 0 in
     let m = getD bs 1 0 in
     let d = drawing-in bs in
-    either (not (eqb (length bs) 72)) (plain 1 refl refl)
+    either (not (eqb (length bs) 73)) (plain 1 refl refl)
     (either (not (leb 1 n && leb n 10)) (plain 2 refl refl)
     (either (not (cables-fit n m)) (plain 3 refl refl)
     (either (not (eqb (cable-refusal n [] (d .cables)) 0)) (cable-plain n [] (d .cables))
@@ -115,8 +115,8 @@ short-plain t = either t (plain 15 refl refl) (plain 0 refl refl)
 pub length-plain : (bs : List ℕ) → Plain (length-refusal bs)
 unfolding length-refusal
 length-plain bs =
-    either (not (eqb (length bs % 72) 0)) (plain 1 refl refl)
-    (either (not (leb 1 (length bs / 72) && leb (length bs / 72) 32)) (plain 14 refl refl) (plain 0 refl refl))
+    either (not (eqb (length bs % 73) 0)) (plain 1 refl refl)
+    (either (not (leb 1 (length bs / 73) && leb (length bs / 73) 32)) (plain 14 refl refl) (plain 0 refl refl))
 
 -- of a survey
 either-refusal : (t : Bool) (a b : surveys.Refusal) → Plain (a .number) → Plain (b .number) → Plain (cond t a b .number)

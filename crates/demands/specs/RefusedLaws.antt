@@ -12,12 +12,12 @@ use lib.ListN.{length}
 use borrow.Author.Tests.{lt-ltb, le-ltb, ne-eqb}
 use Rattle.graphs.specs.Drawing.{Drawing, devices, drawing-in, drawing-refusal}
 use Rattle.graphs.specs.Survey as surveys
-use Rattle.graphs.specs.Survey.{survey, survey-refusal}
+use Rattle.graphs.specs.Survey.{survey, cranes, survey-refusal}
 use Rattle.graphs.specs.Map.{least-map}
 use Rattle.codes.specs.Code.{code-records, kinds-before}
 use Rattle.codes.specs.CodeOrder.{kinds-order}
 use Rattle.codes.specs.SectionCode.{section-code-refusal, section-records}
-use Rattle.growth.specs.Catalogue.{Entry, List-of, Often, support-in}
+use Rattle.growth.specs.Catalogue.{Entry, List-of, Often-in, support-of}
 use Rattle.growth.specs.FamilyLists.{list-unique}
 use Rattle.books.specs.Book.{Small, unsupported, book-refusal}
 use Rattle.records.specs.declared.refusal.Checked.{Checked}
@@ -86,7 +86,7 @@ put-untouched Accepted bytes o h = absurd (not-suc-le-zero h)
 put-untouched (Refused r) bytes o h = refl
 
 pub decode-turned-back : (bs : List ℕ) (r : Written) (o z : List ℕ) → Decode-says bs r o z
-    → Refused-as (first-of (section-code-refusal bs) (too-short 72 o)) (written-numbers r .refusal) (written-numbers r .count) o z
+    → Refused-as (first-of (section-code-refusal bs) (too-short 73 o)) (written-numbers r .refusal) (written-numbers r .count) o z
 decode-turned-back bs r o z s =
     rw (← decode-checked-number bs o)
     (numbers-refused (checked-number (decode-checked bs o)) (length (decoded-bytes bs)) (written-numbers r) o z
@@ -193,7 +193,7 @@ module _ (f : surveys.Refusal) (Wanted : Drawing → Type 0) (figure : Drawing �
       }
 
 pub catalogue-turned-back : (bs : List ℕ) (s l : ℕ) (r : Catalogued) (o z : List ℕ) → Catalogue-says bs s l r o z → Catalogue-refused bs s l r o z
-catalogue-turned-back bs s l = list-turned-back (survey-refusal bs s l) (Often (survey bs) s) (support-in (survey bs)) l
+catalogue-turned-back bs s l = list-turned-back (survey-refusal bs s l) (Often-in bs s) (support-of bs) l
 
 pub book-turned-back : (a b l : ℕ) (r : Catalogued) (o z : List ℕ) → Book-says a b l r o z → Book-refused a b l r o z
 book-turned-back a b l = list-turned-back (surveys.refusal (book-refusal a b l) 0) (Small a b) unsupported l

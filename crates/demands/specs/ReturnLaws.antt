@@ -75,7 +75,7 @@ unfolding Code-says
 code-tells {xs} {x} {o} {z} c =
     returned _ _ (c .number) (written-refusal (c .answer)) (code-as-count (coding-refusal xs o) (drawing-in xs) (c .answer) o z (c .says))
 
--- DECODING: 72 bytes
+-- DECODING: 73 bytes
 first-accepted : (a b : Checked) → or-else a b ≡ Accepted → a ≡ Accepted
 first-accepted Accepted b e = refl
 first-accepted (Refused r) b e = e

@@ -1,5 +1,5 @@
 -- The terms of Demands.antt: the bytes that a call writes, what a refused call leaves, the map of demand 3, what decoding leaves,
--- support as a number of embeddings, and a catalogue or a book that is whole. Assumes nothing: these are definitions.
+-- support as a number of cranes, and a catalogue or a book that is whole. Assumes nothing: these are definitions.
 use mathlib.Core.Path.{_≡_}
 use mathlib.Core.Bool.{Bool, true, false, cond}
 use mathlib.Core.List.{List, [], _∷_, _++_}
@@ -8,17 +8,19 @@ use Prim.Native.Nat.{ℕ, _*_, _/_, _%_, _≤_, _<_}
 use lib.Dec.{ltb}
 use lib.ListN.{length, getD, take, drop, replicate}
 use denote.Ref.{RefT, now}
+use Rattle.laws.specs.Lists.{Mem}
+use Rattle.laws.specs.Counting.{Different}
 use Rattle.laws.specs.Rows.{row}
-use Rattle.graphs.specs.Drawing.{Drawing, devices, kind, drawing-in, drawing-bytes}
+use Rattle.graphs.specs.Drawing.{Drawing, devices, kind, drawing-in, crane-in, drawing-bytes}
 use Rattle.graphs.specs.Map.{map-before}
 use Rattle.graphs.specs.Graph.{Section}
 use Rattle.graphs.specs.Embedding.{Embedding}
 use Rattle.graphs.specs.Isomorphisms.{Demand-map}
 use Rattle.graphs.specs.Survey as surveys
-use Rattle.graphs.specs.Survey.{survey, length-refusal, bytes-refusal, survey-refusal, count-true}
+use Rattle.graphs.specs.Survey.{survey, cranes, length-refusal, bytes-refusal, survey-refusal, containing, count-true}
 use Rattle.codes.specs.Code.{Rec, recs-in, kinds-before, rec-before, before}
 use Rattle.codes.specs.SectionCode.{section-of, Section-code, Least-section}
-use Rattle.growth.specs.Catalogue.{Entry, entry, List-of, Often, support-in, entry-bytes, all-bytes}
+use Rattle.growth.specs.Catalogue.{Entry, entry, List-of, entry-bytes, all-bytes, Often-in, support-of}
 use Rattle.books.specs.Book.{Small, unsupported, book-refusal}
 use Rattle.records.specs.declared.refusal.Refusal.the-variants.{OutputLength}
 use Rattle.code_checks.specs.declared.answer.Written.{Written}
@@ -55,16 +57,16 @@ pub record Refused-as (number refusal count : ℕ) (out out-now : List ℕ) : Ty
 -- OF A CHECK OF A SURVEY: the refusal with the drawing at fault, or how many drawings there are
 pub record Survey-refused (bs : List ℕ) (r : SurveyChecked) : Type 0 where
   pub one : survey-checked r ≡ bytes-refusal bs
-  pub counted : bytes-refusal bs .number ≡ 0 → r ≡ survey-check.Accepted (length bs / 72)
+  pub counted : bytes-refusal bs .number ≡ 0 → r ≡ survey-check.Accepted (length bs / 73)
 
 -- OF OPENING AND FETCHING: opening checks the length place alone; where that refuses, each fetch is 14; else a fetch is 14 exactly if d
 -- is not below the number of drawings, and a refused fetch gives an empty part
 pub record Reader-refused (bs : RefT (List ℕ)) (r : Opened) : Type 0 where
   pub one : checked-number (r .checked) ≡ length-refusal (now bs)
   pub no-drawings : 0 < length-refusal (now bs) → (d : ℕ) (f : Fetched) → Fetches (r .reader) d f → Fetch-gives f 14 []
-  pub past : length-refusal (now bs) ≡ 0 → (d : ℕ) (f : Fetched) → Fetches (r .reader) d f → length (now bs) / 72 ≤ d → Fetch-gives f 14 []
+  pub past : length-refusal (now bs) ≡ 0 → (d : ℕ) (f : Fetched) → Fetches (r .reader) d f → length (now bs) / 73 ≤ d → Fetch-gives f 14 []
   pub fetched :
-      length-refusal (now bs) ≡ 0 → (d : ℕ) (f : Fetched) → Fetches (r .reader) d f → d < length (now bs) / 72 → Fetch-gives f 0 (row 72 d (now bs))
+      length-refusal (now bs) ≡ 0 → (d : ℕ) (f : Fetched) → Fetches (r .reader) d f → d < length (now bs) / 73 → Fetch-gives f 0 (row 73 d (now bs))
 
 -- OF A TEXT: it is made whole, or nothing is written
 pub record Text-made (text : List ℕ) (r : Printed) (out out-now : List ℕ) : Type 0 where
@@ -111,12 +113,12 @@ pub record List-returned (f : surveys.Refusal) (Wanted : Drawing → Type 0) (fi
       f .number ≡ 0 → (es : List Entry) → List-of kinds-before Wanted figure l es → 42 * length es ≤ length out
       → (returned-refusal x ≡ 0) × (returned-drawing x ≡ 0) × (returned-count x ≡ length es) × (out-now ≡ in-front (all-bytes es) out)
 
--- of a catalogue: settings and survey; then the patterns that enough drawings contain, with their support
+-- of a catalogue: settings and survey; then the patterns that drawings of enough cranes contain, with their support
 abbrev pub Catalogue-refused : (bs : List ℕ) (s l : ℕ) → Catalogued → (out out-now : List ℕ) → Type 0
-Catalogue-refused bs s l = List-refused (survey-refusal bs s l) (Often (survey bs) s) (support-in (survey bs)) l
+Catalogue-refused bs s l = List-refused (survey-refusal bs s l) (Often-in bs s) (support-of bs) l
 
 abbrev pub Catalogue-returned : (bs : List ℕ) (s l x : ℕ) (out out-now : List ℕ) → Type 0
-Catalogue-returned bs s l = List-returned (survey-refusal bs s l) (Often (survey bs) s) (support-in (survey bs)) l
+Catalogue-returned bs s l = List-returned (survey-refusal bs s l) (Often-in bs s) (support-of bs) l
 
 -- of the book: 16 and 17, which name no drawing; then the patterns with small kinds, with support 0
 abbrev pub Book-refused : (a b l : ℕ) → Catalogued → (out out-now : List ℕ) → Type 0
@@ -129,11 +131,13 @@ Book-returned a b l = List-returned (surveys.refusal (book-refusal a b l) 0) (Sm
 abbrev pub Mapped : (d e : Drawing) → Type 0
 Mapped d e = (f : List ℕ) × Demand-map d e f
 
--- DECODED: what is written is the record of the drawing that the code describes, and lent bytes past it keep their content
+-- DECODED: what is written is the record of the drawing that the code describes, as a sheet of crane 0, and lent bytes past it keep their
+-- content
 pub record Drawn (rs : List Rec) (r : Written) (out out-now : List ℕ) : Type 0 where
-  pub bytes : written-bytes r out-now ≡ drawing-bytes (section-of rs)
+  pub bytes : written-bytes r out-now ≡ drawing-bytes 0 (section-of rs)
   pub drawing : drawing-in (written-bytes r out-now) ≡ section-of rs
-  pub output : out-now ≡ in-front (drawing-bytes (section-of rs)) out
+  pub crane : crane-in (written-bytes r out-now) ≡ 0
+  pub output : out-now ≡ in-front (drawing-bytes 0 (section-of rs)) out
 
 -- THE ORDER OF CODES of Yan and Han, clause by clause
 pub record Order-clauses : Type 0 where
@@ -182,13 +186,35 @@ No-device k d = (v : ℕ) → v < devices d → kind d v ≡ k → ⊥
 abbrev pub lone-five : (kind : ℕ) → List ℕ
 lone-five k = 0 ∷ 0 ∷ k ∷ 0 ∷ k ∷ []
 
--- SUPPORT: n of the drawings contain p. A mark for each drawing says whether it does, and n of the marks say yes.
-pub record Supported (p : Drawing) (ds : List Drawing) (n : ℕ) : Type 0 where
+-- SUPPORT: n different cranes have a drawing that contains p; `cr` has the crane of each drawing. Their numbers are listed, none twice: each is
+-- that of a drawing that contains p, and that of each such drawing is listed.
+pub record Supported (p : Drawing) (cr : List ℕ) (ds : List Drawing) (n : ℕ) : Type 0 where
+  pub numbers : List ℕ
+  pub once : Different numbers
+  pub filed :
+      (c : ℕ) → Mem c numbers → (k : ℕ) × (k < length ds) × (getD cr k 256 ≡ c) × ((none : Drawing) → Contained p (getD ds k none))
+  pub all : (k : ℕ) (none : Drawing) → k < length ds → Contained p (getD ds k none) → Mem (getD cr k 256) numbers
+  pub counts : n ≡ length numbers
+
+-- DRAWINGS COUNTED ONE BY ONE, whatever their cranes: n of them contain p. A mark for each says whether it does, and n of the marks say yes.
+pub record Drawings-with (p : Drawing) (ds : List Drawing) (n : ℕ) : Type 0 where
   pub marks : List Bool
   pub size : length marks ≡ length ds
   pub yes : (k : ℕ) (none : Drawing) → k < length ds → getD marks k false ≡ true → Contained p (getD ds k none)
   pub no : (k : ℕ) (none : Drawing) → k < length ds → getD marks k false ≡ false → Contained p (getD ds k none) → ⊥
   pub counts : n ≡ count-true marks
+
+-- and the catalogue that they give: the patterns that at least s drawings contain, each with their number
+abbrev pub drawings-with : (ds : List Drawing) → Drawing → ℕ
+drawings-with ds p = count-true (containing p ds)
+
+abbrev pub Catalogue-one-by-one : (ds : List Drawing) (s l : ℕ) (es : List Entry) → Type 0
+Catalogue-one-by-one ds s = List-of kinds-before (λ p. s ≤ drawings-with ds p) (drawings-with ds)
+
+-- ONE DRAWING AS SHEETS OF TWO CRANES: records that do not differ before byte 72. Those of another length are refused.
+pub record Sheets-alike (xs ys : List ℕ) : Type 0 where
+  pub sized : length xs ≡ length ys
+  pub alike : take 72 xs ≡ take 72 ys
 
 -- ENTRIES of the output, 42 bytes each: number of cables, support, then that many records
 unfoldable pub entry-of : List ℕ → Entry
@@ -222,16 +248,16 @@ pub record Whole-list (n : ℕ) (o z : List ℕ) : Type 0 where
 -- A WHOLE CATALOGUE
 pub record Whole-catalogue (bs : List ℕ) (s l n : ℕ) (o z : List ℕ) : Type 0 where
   pub list : Whole-list n o z
-  -- a section of 1 to l cables that at least s drawings contain has an entry
+  -- a section of 1 to l cables that drawings of at least s cranes contain has an entry
   pub there :
-      (p : Drawing) → Section p → 1 ≤ length (p .cables) → length (p .cables) ≤ l → (m : ℕ) → Supported p (survey bs) m → s ≤ m
+      (p : Drawing) → Section p → 1 ≤ length (p .cables) → length (p .cables) ≤ l → (m : ℕ) → Supported p (cranes bs) (survey bs) m → s ≤ m
       → (k : ℕ) × (k < n) × Entry-for p z k
   -- and no other has, so none without a cable
   pub frequent :
       (p : Drawing) → Section p → (k : ℕ) → k < n → Entry-for p z k
       → (1 ≤ length (p .cables)) × (length (p .cables) ≤ l) × (s ≤ entry-in k z .support)
   -- with its support
-  pub support : (p : Drawing) → Section p → (k : ℕ) → k < n → Entry-for p z k → Supported p (survey bs) (entry-in k z .support)
+  pub support : (p : Drawing) → Section p → (k : ℕ) → k < n → Entry-for p z k → Supported p (cranes bs) (survey bs) (entry-in k z .support)
 
 -- A WHOLE BOOK
 pub record Whole-book (a b l n : ℕ) (o z : List ℕ) : Type 0 where

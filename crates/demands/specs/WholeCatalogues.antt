@@ -6,11 +6,12 @@ use Prim.Native.Nat.{ℕ, _≤_, _<_}
 use native.Mathlib.Omega.{arith}
 use Rattle.graphs.specs.Drawing.{Drawing}
 use Rattle.graphs.specs.Graph.{Section}
-use Rattle.graphs.specs.Survey.{survey, survey-refusal}
-use Rattle.growth.specs.Catalogue.{Often, support-in}
+use Rattle.graphs.specs.Survey.{survey, cranes, survey-refusal}
+use Rattle.growth.specs.Catalogue.{Often-in, support-of}
 use Rattle.growth.specs.Frequent.{often-closed, support-kept}
 use Rattle.growth.specs.Settings.{accepted-settings}
 use Rattle.records.specs.declared.catalogued.Catalogued.the-variants.{Entries}
+use Rattle.walks.specs.PreparedLaws.{as-many-cranes}
 use Rattle.mining.specs.CatalogueSays.{Catalogue-says}
 use Rattle.demands.specs.Terms.{entry-in, Entry-for, Supported, Whole-catalogue}
 use Rattle.demands.specs.Supports.{supported, supported-is}
@@ -18,28 +19,30 @@ use Rattle.demands.specs.WholeLists.{Entry-says, list-accepted, Finished
 
 -- where entries are answered, settings and survey are accepted
 pub entries-accepted : (bs : List ℕ) (s l n : ℕ) (o z : List ℕ) → Catalogue-says bs s l (Entries n) o z → survey-refusal bs s l .number ≡ 0
-entries-accepted bs s l n o z = list-accepted (Often (survey bs) s) (support-in (survey bs)) l (survey-refusal bs s l) n o z
+entries-accepted bs s l n o z = list-accepted (Often-in bs s) (support-of bs) l (survey-refusal bs s l) n o z
 
-module _ (bs : List ℕ) (s l n : ℕ) (o z : List ℕ) (high : l ≤ 8) (f : Finished (Often (survey bs) s) (support-in (survey bs)) l n o z) where
-  says : (p : Drawing) → Section p → (k : ℕ) → k < n → Entry-for p z k → Entry-says (Often (survey bs) s) (support-in (survey bs)) l (entry-in k z) p
-  says = whole-says (Often (survey bs) s) (support-in (survey bs)) l (often-closed (survey bs) s) (support-kept (survey bs)) high f
+module _ (bs : List ℕ) (s l n : ℕ) (o z : List ℕ) (high : l ≤ 8) (f : Finished (Often-in bs s) (support-of bs) l n o z) where
+  says : (p : Drawing) → Section p → (k : ℕ) → k < n → Entry-for p z k → Entry-says (Often-in bs s) (support-of bs) l (entry-in k z) p
+  says = whole-says (Often-in bs s) (support-of bs) l (often-closed (cranes bs) (survey bs) s) (support-kept (cranes bs) (survey bs)) high f
 
-  -- in the words of the demand: a pattern as a graph, support as a number of embeddings
+  -- in the words of the demand: a pattern as a graph, support as a number of cranes
   demanded : Whole-catalogue bs s l n o z
   demanded =
       record {
-        list = whole-list (Often (survey bs) s) (support-in (survey bs)) l (often-closed (survey bs) s) (support-kept (survey bs)) high f;
+        list = whole-list (Often-in bs s) (support-of bs) l (often-closed (cranes bs) (survey bs) s) (support-kept (cranes bs) (survey bs)) high f;
         there = λ p i some h m q g.
-            whole-there (Often (survey bs) s) (support-in (survey bs)) l (often-closed (survey bs) s) (support-kept (survey bs)) high f p i some h
-            (λ w. omega (arith, supported-is p w (survey bs) m q));
+            whole-there (Often-in bs s) (support-of bs) l (often-closed (cranes bs) (survey bs) s) (support-kept (cranes bs) (survey bs)) high f
+            p i some h
+            (λ w. omega (arith, supported-is p (w .simple .ends) (cranes bs) (survey bs) (as-many-cranes bs) m q));
         frequent = λ p i k h c. let t = says p i k h c in (t .pattern .cables-low, t .size, omega (arith, t .wanted, t .support-is));
         support = λ p i k h c.
             let t = says p i k h c in
-            subst (Supported p (survey bs)) (sym (t .support-is)) (supported p (t .pattern) (survey bs));
+            subst (Supported p (cranes bs) (survey bs)) (sym (t .support-is))
+            (supported p (t .pattern .simple .ends) (cranes bs) (survey bs) (as-many-cranes bs));
       }
 
 -- ONE THEOREM: a catalogue that the call says to have n entries is whole
 pub whole-catalogue : (bs : List ℕ) (s l n : ℕ) (o z : List ℕ) → Catalogue-says bs s l (Entries n) o z → Whole-catalogue bs s l n o z
 whole-catalogue bs s l n o z says =
     demanded bs s l n o z (accepted-settings bs s l (entries-accepted bs s l n o z says) .limit-high)
-    (finished (Often (survey bs) s) (support-in (survey bs)) l (survey-refusal bs s l) n o z says)
+    (finished (Often-in bs s) (support-of bs) l (survey-refusal bs s l) n o z says)

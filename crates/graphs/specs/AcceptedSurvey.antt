@@ -15,15 +15,15 @@ use Rattle.graphs.specs.Survey.{refusal, records-in, length-refusal, dra
 use Rattle.graphs.specs.Survey.{drawing-count}
 
 -- a drawing as a part of the survey
-pub drawing-part : (bs : List ℕ) (d : ℕ) → take (72 * d + 72 - 72 * d) (drop (72 * d) bs) ≡ row 72 d bs
+pub drawing-part : (bs : List ℕ) (d : ℕ) → take (73 * d + 73 - 73 * d) (drop (73 * d) bs) ≡ row 73 d bs
 unfolding row
-drawing-part bs d = let e : 72 * d + 72 - 72 * d ≡ 72 = omega arith in rw e
+drawing-part bs d = let e : 73 * d + 73 - 73 * d ≡ 73 = omega arith in rw e
 
 -- what a walk over the drawings of an accepted survey knows
 pub record Accepted-survey (bs : List ℕ) : Type 0 where
-  pub whole : 72 * drawing-count bs ≡ length bs
+  pub whole : 73 * drawing-count bs ≡ length bs
   pub most : drawing-count bs ≤ 32
-  pub drawing : (d : ℕ) → d < drawing-count bs → drawing-refusal (row 72 d bs) ≡ 0
+  pub drawing : (d : ℕ) → d < drawing-count bs → drawing-refusal (row 73 d bs) ≡ 0
 
 drawings-accepted :
     (rs : List (List ℕ)) (d : ℕ) → drawings-refusal d rs .number ≡ 0
@@ -46,13 +46,13 @@ accepted-survey bs e = go (eqb (length-refusal bs) 0) refl e
   where
     parts : length-refusal bs ≡ 0 → drawings-refusal 0 (records-in bs) .number ≡ 0 → Accepted-survey bs
     parts z x = unfold length-refusal records-in in
-        let n = length bs / 72 in
-        let fits = passes (eqb (length bs % 72) 0) 1 _ (λ p q. omega arith) z in
+        let n = length bs / 73 in
+        let fits = passes (eqb (length bs % 73) 0) 1 _ (λ p q. omega arith) z in
         let few = passes (leb 1 n && leb n 32) 14 0 (λ p q. omega arith) (fits .1) in
         record {
-          whole = whole-records 72 bs (eqb-true (length bs % 72) 0 (fits .0));
+          whole = whole-records 73 bs (eqb-true (length bs % 73) 0 (fits .0));
           most = leb-true n 32 (and-split (leb 1 n) (leb n 32) (few .0) .1);
-          drawing = λ d h. rw (← rows-at 72 n d bs h) (drawings-accepted (rows 72 n bs) 0 x d (rw (rows-length 72 n bs) h));
+          drawing = λ d h. rw (← rows-at 73 n d bs h) (drawings-accepted (rows 73 n bs) 0 x d (rw (rows-length 73 n bs) h));
         }
 
     go : (t : Bool) → eqb (length-refusal bs) 0 ≡ t

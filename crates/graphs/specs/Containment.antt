@@ -10,7 +10,8 @@ use lib.ListN.{length, getD}
 use Rattle.laws.specs.Tests.{same-truth}
 use Rattle.graphs.specs.Drawing.{Drawing, devices}
 use Rattle.graphs.specs.Map.{contains, Same}
-use Rattle.graphs.specs.Survey.{containing, count-true, support}
+use Rattle.graphs.specs.Survey.{containing, crane-count, support}
+use Rattle.graphs.specs.CraneCounts.{crane-count-falls}
 use Rattle.graphs.specs.Embedding.{Ends-in-range}
 use Rattle.graphs.specs.Graph.{Simple}
 use Rattle.graphs.specs.Embeddings.{identity, embedding-identity, compose, embedding-compose}
@@ -41,17 +42,9 @@ module _ (p q : Drawing) (ends-p : Ends-in-range p) (ends-q : Ends-in-range q) (
   containing-shrinks (d ∷ ds) zero e = contains-compose p q d ends-p ends-q h e
   containing-shrinks (d ∷ ds) (suc i) e = containing-shrinks ds i e
 
-  pub support-falls : (ds : List Drawing) → support q ds ≤ support p ds
-  unfolding support count-true containing
-  support-falls [] = omega arith
-  support-falls (d ∷ ds) = go (contains q d) (contains p d) (contains-compose p q d ends-p ends-q h) (support-falls ds)
-    where
-      go :
-          (x y : Bool) → (x ≡ true → y ≡ true) → support q ds ≤ support p ds
-          → cond {A = ℕ} x 1 0 + support q ds ≤ cond {A = ℕ} y 1 0 + support p ds
-      go true y f l = rw (f refl) (omega arith)
-      go false true f l = omega arith
-      go false false f l = omega arith
+  pub support-falls : (cs : List ℕ) (ds : List Drawing) → support q cs ds ≤ support p cs ds
+  unfolding support
+  support-falls cs ds = crane-count-falls cs (containing q ds) (containing p ds) (containing-shrinks ds)
 
 -- DRAWINGS THAT ARE THE SAME are contained alike
 pub contains-from-same : (p d : Drawing) → Ends-in-range p → Ends-in-range d → Same p d → contains p d ≡ true
@@ -70,9 +63,9 @@ module _ (p q : Drawing) (ends-p : Ends-in-range p) (ends-q : Ends-in-range q) (
   containing-same [] = refl
   containing-same (d ∷ ds) = ap₂ {C = List Bool} (λ b bs. b ∷ bs) (contains-same d) (containing-same ds)
 
-  pub same-support : (ds : List Drawing) → support p ds ≡ support q ds
+  pub same-support : (cs : List ℕ) (ds : List Drawing) → support p cs ds ≡ support q cs ds
   unfolding support
-  same-support ds = ap count-true (containing-same ds)
+  same-support cs ds = ap (crane-count cs) (containing-same ds)
 
 -- SAMENESS is containment with as many devices and as many cables
 pub same-contained : (p d : Drawing) → Simple p → Simple d → Same p d

@@ -26,7 +26,7 @@ devices d = length (d .kinds)
 abbrev pub kind : Drawing → (v : ℕ) → ℕ
 kind d v = getD (d .kinds) v 256
 
--- AS BYTES: n, m, ten kinds, twenty cables of three bytes (one end, other end, cable kind)
+-- AS BYTES: n, m, ten kinds, twenty cables of three bytes (one end, other end, cable kind), the number of the crane
 unfoldable pub cable-in : List ℕ → Cable
 cable-in bs = record { a = getD bs 0 0; b = getD bs 1 0; kind = getD bs 2 0 }
 
@@ -36,15 +36,20 @@ cables-in n bs = map cable-in (rows 3 n bs)
 unfoldable pub drawing-in : List ℕ → Drawing
 drawing-in bs = record { kinds = take (getD bs 0 0) (drop 2 bs); cables = cables-in (getD bs 1 0) (drop 12 bs) }
 
+-- byte 72: the crane that the drawing is a sheet of. It is no part of the graph.
+unfoldable pub crane-in : List ℕ → ℕ
+crane-in bs = getD bs 72 0
+
 -- and back: unused kind and cable bytes are zero
 unfoldable pub cable-bytes : List Cable → List ℕ
 cable-bytes [] = []
 cable-bytes (c ∷ cs) = c .a ∷ c .b ∷ c .kind ∷ cable-bytes cs
 
-unfoldable pub drawing-bytes : Drawing → List ℕ
-drawing-bytes d =
+unfoldable pub drawing-bytes : (crane : ℕ) → Drawing → List ℕ
+drawing-bytes k d =
     (devices d ∷ length (d .cables) ∷ []) ++ d .kinds ++ replicate (10 - devices d) 0 ++ cable-bytes (d .cables)
     ++ replicate (60 - 3 * length (d .cables)) 0
+    ++ (k ∷ [])
 
 -- CABLES have no direction
 unfoldable pub joins : (a b : ℕ) → Cable → Bool
@@ -61,13 +66,14 @@ cable-refusal n bs (c ∷ cs) =
     cond (leb n (c .a) || leb n (c .b)) 4
     (cond (eqb (c .a) (c .b)) 5 (cond (joined-by (c .a) (c .b) bs) 6 (cable-refusal n (bs ++ (c ∷ [])) cs)))
 
--- 7 unused byte not zero
+-- 7 unused byte not zero; the crane's byte is used, whatever it holds
 unfoldable pub all-zero : List ℕ → Bool
 all-zero [] = true
 all-zero (b ∷ bs) = eqb b 0 && all-zero bs
 
 unfoldable pub unused-zero : List ℕ → Bool
-unused-zero bs = all-zero (take (10 - getD bs 0 0) (drop (2 + getD bs 0 0) bs)) && all-zero (drop (12 + 3 * getD bs 1 0) bs)
+unused-zero bs =
+    all-zero (take (10 - getD bs 0 0) (drop (2 + getD bs 0 0) bs)) && all-zero (take (60 - 3 * getD bs 1 0) (drop (12 + 3 * getD bs 1 0) bs))
 
 -- CONNECTED: from device 0 cables lead to every other. Each round takes up the devices that a cable joins to one reached so far.
 unfoldable pub member : ℕ → List ℕ → Bool
@@ -99,7 +105,7 @@ drawing-refusal bs =
     let n = getD bs 0 0 in
     let m = getD bs 1 0 in
     let d = drawing-in bs in
-    cond (not (eqb (length bs) 72)) 1
+    cond (not (eqb (length bs) 73)) 1
     (cond (not (leb 1 n && leb n 10)) 2
     (cond (not (cables-fit n m)) 3
     (cond (not (eqb (cable-refusal n [] (d .cables)) 0)) (cable-refusal n [] (d .cables))

@@ -1,5 +1,5 @@
--- Reading and writing a drawing record are inverse: a pattern has an accepted record, and an accepted record is the one
--- that its drawing is written as. Rests on Patterns, and on Rows of laws for the cables' three bytes. Assumes nothing.
+-- Reading and writing a drawing record are inverse: a section has an accepted record for each crane, and an accepted record is the one
+-- that its drawing and its crane are written as. Rests on Patterns, and on Rows of laws for the cables' three bytes. Assumes nothing.
 use mathlib.Core.Path.{_≡_, refl, sym, ap, ap₂, _∙_}
 use mathlib.Core.Bool.{true}
 use mathlib.Core.List.{List, [], _∷_, _++_, map, append-assoc}
@@ -20,9 +20,9 @@ use lib.ListN.{
   length-replicate,
   take-append-drop,
 }
-use lib.Seq.{take-at, drop-at, drop-drop, take-add}
+use lib.Seq.{take-at, drop-at, drop-drop, take-add, drop-cons, getD-drop}
 use Rattle.laws.specs.Tests.{and-split, and-both}
-use Rattle.laws.specs.Lists.{concat}
+use Rattle.laws.specs.Lists.{concat, snoc-new, nil-of-length}
 use Rattle.laws.specs.Rows.{rows, Sized, rows-sized, rows-concat, concat-rows, concat-length}
 use Rattle.graphs.specs.Drawing.{
   Cable,
@@ -31,6 +31,7 @@ use Rattle.graphs.specs.Drawing.{
   cable-in,
   cables-in,
   drawing-in,
+  crane-in,
   cable-bytes,
   drawing-bytes,
 }
@@ -120,18 +121,18 @@ cable-bytes-byte-list (c ∷ cs) ends kinds =
     (and-both (lt-ltb (c .kind) 256 (kinds (c .a) (c .b) (c .kind) (has-first c cs)))
     (cable-bytes-byte-list cs (λ u v k h. ends u v k (Has.there h)) (λ u v k h. kinds u v k (Has.there h)))))
 
--- A DRAWING: n, m, ten kinds, twenty cables of three bytes; unused kind and cable bytes are zero
+-- A DRAWING: n, m, ten kinds, twenty cables of three bytes, the crane; unused kind and cable bytes are zero
 kind-part : Drawing → List ℕ
 kind-part d = d .kinds ++ replicate (10 - devices d) 0
 
 cable-part : Drawing → List ℕ
 cable-part d = cable-bytes (d .cables) ++ replicate (60 - 3 * length (d .cables)) 0
 
-drawing-bytes-parts : (d : Drawing) → drawing-bytes d ≡ devices d ∷ length (d .cables) ∷ (kind-part d ++ cable-part d)
+drawing-bytes-parts : (k : ℕ) (d : Drawing) → drawing-bytes k d ≡ devices d ∷ length (d .cables) ∷ (kind-part d ++ (cable-part d ++ (k ∷ [])))
 unfolding drawing-bytes kind-part cable-part
-drawing-bytes-parts d = simp append-assoc
+drawing-bytes-parts k d = simp append-assoc
 
-module _ (d : Drawing) (few : devices d ≤ 10) (thin : length (d .cables) ≤ 20) where
+module _ (k : ℕ) (d : Drawing) (few : devices d ≤ 10) (thin : length (d .cables) ≤ 20) where
   kind-part-length : length (kind-part d) ≡ 10
   unfolding kind-part
   kind-part-length = simp (length-append, length-replicate) (omega arith)
@@ -140,39 +141,52 @@ module _ (d : Drawing) (few : devices d ≤ 10) (thin : length (d .cables) ≤ 2
   unfolding cable-part
   cable-part-length = simp (length-append, length-replicate, cable-bytes-length) (omega arith)
 
-  pub drawing-bytes-length : length (drawing-bytes d) ≡ 72
-  drawing-bytes-length = rw (drawing-bytes-parts, length-append (kind-part d)) (omega (arith, kind-part-length, cable-part-length))
+  pub drawing-bytes-length : length (drawing-bytes k d) ≡ 73
+  drawing-bytes-length =
+      rw (drawing-bytes-parts, length-append (kind-part d), length-append (cable-part d)) (omega (arith, kind-part-length, cable-part-length))
 
   -- what stands where
-  cables-there : drop 12 (drawing-bytes d) ≡ cable-part d
-  cables-there = rw drawing-bytes-parts (drop-at (kind-part d) (cable-part d) 10 kind-part-length)
+  cables-there : drop 12 (drawing-bytes k d) ≡ cable-part d ++ (k ∷ [])
+  cables-there = rw drawing-bytes-parts (drop-at (kind-part d) (cable-part d ++ (k ∷ [])) 10 kind-part-length)
 
-  unused-kinds : take (10 - devices d) (drop (2 + devices d) (drawing-bytes d)) ≡ replicate (10 - devices d) 0
+  unused-kinds : take (10 - devices d) (drop (2 + devices d) (drawing-bytes k d)) ≡ replicate (10 - devices d) 0
   unfolding kind-part
   unused-kinds =
-      rw (← drop-drop (devices d) 2 (drawing-bytes d), drawing-bytes-parts, append-assoc, drop-at (d .kinds) _ (devices d) refl)
-      (take-at (replicate (10 - devices d) 0) (cable-part d) (10 - devices d) (length-replicate (10 - devices d) 0))
+      rw (← drop-drop (devices d) 2 (drawing-bytes k d), drawing-bytes-parts, append-assoc, drop-at (d .kinds) _ (devices d) refl)
+      (take-at (replicate (10 - devices d) 0) (cable-part d ++ (k ∷ [])) (10 - devices d) (length-replicate (10 - devices d) 0))
 
-  unused-cables : drop (12 + 3 * length (d .cables)) (drawing-bytes d) ≡ replicate (60 - 3 * length (d .cables)) 0
+  unused-cables :
+      take (60 - 3 * length (d .cables)) (drop (12 + 3 * length (d .cables)) (drawing-bytes k d)) ≡ replicate (60 - 3 * length (d .cables)) 0
   unfolding cable-part
   unused-cables =
-      rw (← drop-drop (3 * length (d .cables)) 12 (drawing-bytes d), cables-there)
-      (drop-at (cable-bytes (d .cables)) _ (3 * length (d .cables)) (cable-bytes-length (d .cables)))
+      rw (
+        ← drop-drop (3 * length (d .cables)) 12 (drawing-bytes k d),
+        cables-there,
+        append-assoc,
+        drop-at (cable-bytes (d .cables)) _ (3 * length (d .cables)) (cable-bytes-length (d .cables)),
+      )
+      (take-at (replicate (60 - 3 * length (d .cables)) 0) (k ∷ []) (60 - 3 * length (d .cables))
+      (length-replicate (60 - 3 * length (d .cables)) 0))
 
   -- WRITTEN, THEN READ
-  pub drawing-in-bytes : drawing-in (drawing-bytes d) ≡ d
+  pub drawing-in-bytes : drawing-in (drawing-bytes k d) ≡ d
   unfolding drawing-in
   drawing-in-bytes = ap₂ {C = Drawing} (λ ks cs. record { kinds = ks; cables = cs }) used-kinds used-cables
     where
-      used-kinds : take (getD (drawing-bytes d) 0 0) (drop 2 (drawing-bytes d)) ≡ d .kinds
+      used-kinds : take (getD (drawing-bytes k d) 0 0) (drop 2 (drawing-bytes k d)) ≡ d .kinds
       used-kinds = unfold kind-part in rw (drawing-bytes-parts, append-assoc) (take-at (d .kinds) _ (devices d) refl)
 
-      used-cables : cables-in (getD (drawing-bytes d) 1 0) (drop 12 (drawing-bytes d)) ≡ d .cables
-      used-cables = unfold cable-part in rw (cables-there, drawing-bytes-parts) (cables-in-bytes (d .cables) _)
+      used-cables : cables-in (getD (drawing-bytes k d) 1 0) (drop 12 (drawing-bytes k d)) ≡ d .cables
+      used-cables = unfold cable-part in rw (cables-there, drawing-bytes-parts, append-assoc) (cables-in-bytes (d .cables) _)
+
+  pub crane-in-bytes : crane-in (drawing-bytes k d) ≡ k
+  unfolding crane-in
+  crane-in-bytes = sym (getD-drop 12 (drawing-bytes k d) 60 0) ∙ rw cables-there (snoc-new 0 (cable-part d) k 60 (sym cable-part-length))
 
 -- READ, THEN WRITTEN
 module _ (bs : List ℕ) (a : Accepted-parts bs) where
-  zero-bytes : (all-zero (take (10 - getD bs 0 0) (drop (2 + getD bs 0 0) bs)) ≡ true) × (all-zero (drop (12 + 3 * getD bs 1 0) bs) ≡ true)
+  zero-bytes : (all-zero (take (10 - getD bs 0 0) (drop (2 + getD bs 0 0) bs)) ≡ true)
+      × (all-zero (take (60 - 3 * getD bs 1 0) (drop (12 + 3 * getD bs 1 0) bs)) ≡ true)
   zero-bytes = unfold unused-zero in and-split _ _ (a .unused)
 
   kind-part-in : kind-part (drawing-in bs) ≡ take 10 (drop 2 bs)
@@ -188,37 +202,53 @@ module _ (bs : List ℕ) (a : Accepted-parts bs) where
       zeros : take (10 - n) (drop n (drop 2 bs)) ≡ replicate (10 - n) 0
       zeros = zeros-from-test (10 - n) _ (simp (length-take, length-drop) (omega (arith, a .size, a .devices-high))) (rw drop-drop (zero-bytes .0))
 
-  cable-part-in : cable-part (drawing-in bs) ≡ drop 12 bs
+  cable-part-in : cable-part (drawing-in bs) ≡ take 60 (drop 12 bs)
   unfolding cable-part drawing-in
-  cable-part-in = rw (a .cable-count, cable-bytes-in m (drop 12 bs) enough, ← zeros) (take-append-drop (3 * m) (drop 12 bs))
+  cable-part-in =
+      rw (a .cable-count, cable-bytes-in m (drop 12 bs) enough, ← zeros)
+      (sym (take-add (3 * m) (60 - 3 * m) (drop 12 bs)) ∙ ap (λ (k : ℕ). take k (drop 12 bs)) sixty)
     where
       m : ℕ
       m = getD bs 1 0
 
+      sixty : 3 * m + (60 - 3 * m) ≡ 60
+      sixty = omega (arith, a .cables-high)
+
       enough : 3 * m ≤ length (drop 12 bs)
       enough = rw length-drop (omega (arith, a .size, a .cables-high))
 
-      zeros : drop (3 * m) (drop 12 bs) ≡ replicate (60 - 3 * m) 0
-      zeros = zeros-from-test (60 - 3 * m) _ (simp length-drop (omega (arith, a .size))) (rw drop-drop (zero-bytes .1))
+      zeros : take (60 - 3 * m) (drop (3 * m) (drop 12 bs)) ≡ replicate (60 - 3 * m) 0
+      zeros =
+          zeros-from-test (60 - 3 * m) _ (simp (length-take, length-drop) (omega (arith, a .size, a .cables-high))) (rw drop-drop (zero-bytes .1))
 
--- an accepted record is the one that its drawing is written as
-pub drawing-bytes-in : (bs : List ℕ) → drawing-refusal bs ≡ 0 → drawing-bytes (drawing-in bs) ≡ bs
+-- an accepted record is the one that its drawing and its crane are written as
+pub drawing-bytes-in : (bs : List ℕ) → drawing-refusal bs ≡ 0 → drawing-bytes (crane-in bs) (drawing-in bs) ≡ bs
 drawing-bytes-in bs e =
     let a = accepted-parts bs e in
     rw (drawing-bytes-parts, a .device-count, a .cable-count, kind-part-in bs a, cable-part-in bs a) (go bs (a .size))
   where
-    go : (xs : List ℕ) → length xs ≡ 72 → getD xs 0 0 ∷ getD xs 1 0 ∷ (take 10 (drop 2 xs) ++ drop 12 xs) ≡ xs
+    go : (xs : List ℕ) → length xs ≡ 73
+        → getD xs 0 0 ∷ getD xs 1 0 ∷ (take 10 (drop 2 xs) ++ (take 60 (drop 12 xs) ++ (crane-in xs ∷ []))) ≡ xs
     go [] z = absurd (omega arith)
     go (x ∷ []) z = absurd (omega arith)
-    go (x ∷ y ∷ xs) z = ap {B = List ℕ} (λ ys. x ∷ y ∷ ys) (take-append-drop 10 xs)
+    go (x ∷ y ∷ xs) z = ap {B = List ℕ} (λ ys. x ∷ y ∷ ys) (ap (λ (ys : List ℕ). take 10 xs ++ ys) rest ∙ take-append-drop 10 xs)
+      where
+        last : drop 60 (drop 10 xs) ≡ crane-in (x ∷ y ∷ xs) ∷ []
+        last = unfold crane-in in rw drop-drop (drop-cons xs 70 0 (omega arith) ∙ ap (λ (ys : List ℕ). getD xs 70 0 ∷ ys) none)
+          where
+            none : drop 71 xs ≡ []
+            none = nil-of-length (drop 71 xs) (simp length-drop (omega arith))
 
--- EVERY SECTION HAS AN ACCEPTED RECORD
-module _ (d : Drawing) (section : Section d) where
-  pub drawing-bytes-accepted : drawing-refusal (drawing-bytes d) ≡ 0
+        rest : take 60 (drop 10 xs) ++ (crane-in (x ∷ y ∷ xs) ∷ []) ≡ drop 10 xs
+        rest = ap (λ (ys : List ℕ). take 60 (drop 10 xs) ++ ys) (sym last) ∙ take-append-drop 60 (drop 10 xs)
+
+-- EVERY SECTION HAS AN ACCEPTED RECORD, as a sheet of any crane
+module _ (k : ℕ) (d : Drawing) (section : Section d) where
+  pub drawing-bytes-accepted : drawing-refusal (drawing-bytes k d) ≡ 0
   drawing-bytes-accepted =
-      refusal-zero (drawing-bytes d)
+      refusal-zero (drawing-bytes k d)
       (record {
-        size = drawing-bytes-length d few thin;
+        size = drawing-bytes-length k d few thin;
         devices-low = rw n (section .devices-low);
         devices-high = rw n few;
         fitting = rw (n, m) (fit-to-test (devices d) (length (d .cables)) (section-fit d section));
@@ -237,39 +267,42 @@ module _ (d : Drawing) (section : Section d) where
       thin = section .cables-high
 
       -- its first two bytes
-      n : getD (drawing-bytes d) 0 0 ≡ devices d
+      n : getD (drawing-bytes k d) 0 0 ≡ devices d
       n = rw drawing-bytes-parts
 
-      m : getD (drawing-bytes d) 1 0 ≡ length (d .cables)
+      m : getD (drawing-bytes k d) 1 0 ≡ length (d .cables)
       m = rw drawing-bytes-parts
 
-      back : drawing-in (drawing-bytes d) ≡ d
-      back = drawing-in-bytes d few thin
+      back : drawing-in (drawing-bytes k d) ≡ d
+      back = drawing-in-bytes k d few thin
 
-      unused : unused-zero (drawing-bytes d) ≡ true
+      unused : unused-zero (drawing-bytes k d) ≡ true
       unused =
           unfold unused-zero in
-          rw (n, m, unused-kinds d few thin, unused-cables d few thin)
+          rw (n, m, unused-kinds k d few thin, unused-cables k d few thin)
           (and-both (zeros-to-test (10 - devices d)) (zeros-to-test (60 - 3 * length (d .cables))))
 
-  -- of bytes, if its cable kinds are bytes
-  pub drawing-bytes-byte-list : ((u v k : ℕ) → Has u v k (d .cables) → k < 256) → byte-list (drawing-bytes d) ≡ true
-  drawing-bytes-byte-list kinds = rw drawing-bytes-parts counted
+  -- of bytes, if its crane and its cable kinds are bytes
+  pub drawing-bytes-byte-list : k < 256 → ((u v c : ℕ) → Has u v c (d .cables) → c < 256) → byte-list (drawing-bytes k d) ≡ true
+  drawing-bytes-byte-list low kinds = rw drawing-bytes-parts counted
     where
       kind-bytes : byte-list (kind-part d) ≡ true
       kind-bytes = unfold kind-part in byte-list-append (d .kinds) _ (section .bytes) (zeros-byte-list (10 - devices d))
 
-      ends : (u v k : ℕ) → Has u v k (d .cables) → u < 256
-      ends u v k g = omega (arith, section .devices-high, section .simple .ends u v k g)
+      ends : (u v c : ℕ) → Has u v c (d .cables) → u < 256
+      ends u v c g = omega (arith, section .devices-high, section .simple .ends u v c g)
 
       cables : byte-list (cable-part d) ≡ true
       cables =
           unfold cable-part in
           byte-list-append (cable-bytes (d .cables)) _ (cable-bytes-byte-list (d .cables) ends kinds) (zeros-byte-list (60 - 3 * length (d .cables)))
 
-      counted : byte-list (devices d ∷ length (d .cables) ∷ (kind-part d ++ cable-part d)) ≡ true
+      crane : byte-list (k ∷ []) ≡ true
+      crane = unfold byte-list in and-both (lt-ltb k 256 low) refl
+
+      counted : byte-list (devices d ∷ length (d .cables) ∷ (kind-part d ++ (cable-part d ++ (k ∷ [])))) ≡ true
       counted =
           unfold byte-list in
           and-both (lt-ltb (devices d) 256 (omega (arith, section .devices-high)))
           (and-both (lt-ltb (length (d .cables)) 256 (omega (arith, section .cables-high)))
-          (byte-list-append (kind-part d) (cable-part d) kind-bytes cables))
+          (byte-list-append (kind-part d) _ kind-bytes (byte-list-append (cable-part d) (k ∷ []) cables crane)))

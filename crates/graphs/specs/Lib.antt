@@ -7,6 +7,7 @@ pub mod Graph
 -- Laws over them.
 pub mod MarkCounts
 pub mod Cables
+pub mod CraneCounts
 pub mod Simple
 pub mod Embeddings
 pub mod Isomorphisms
@@ -22,3 +23,4 @@ pub mod Patterns
 pub mod DrawingBytes
 pub mod AcceptedDrawing
 pub mod AcceptedSurvey
+pub mod CraneByte

@@ -89,7 +89,7 @@ pattern-to-test p w =
 
 -- AN ACCEPTED RECORD, part by part
 pub record Accepted-parts (bs : List ℕ) : Type 0 where
-  pub size : length bs ≡ 72
+  pub size : length bs ≡ 73
   pub devices-low : 1 ≤ getD bs 0 0
   pub devices-high : getD bs 0 0 ≤ 10
   pub fitting : cables-fit (getD bs 0 0) (getD bs 1 0) ≡ true
@@ -112,14 +112,14 @@ accepted-parts bs e =
     let n = getD bs 0 0 in
     let m = getD bs 1 0 in
     let d = drawing-in bs in
-    let whole = passes (eqb (length bs) 72) 1 _ (λ x y. omega arith) e in
+    let whole = passes (eqb (length bs) 73) 1 _ (λ x y. omega arith) e in
     let few = passes (leb 1 n && leb n 10) 2 _ (λ x y. omega arith) (whole .1) in
     let thin = passes (cables-fit n m) 3 _ (λ x y. omega arith) (few .1) in
     let r = cable-refusal n [] (d .cables) in
     let good = passes (eqb r 0) r _ (eqb-false r 0) (thin .1) in
     let rest = passes (unused-zero bs) 7 _ (λ x y. omega arith) (good .1) in
     let ns = and-split (leb 1 n) (leb n 10) (few .0) in
-    let size : length bs ≡ 72 = eqb-true (length bs) 72 (whole .0) in
+    let size : length bs ≡ 73 = eqb-true (length bs) 73 (whole .0) in
     let high : getD bs 0 0 ≤ 10 = leb-true n 10 (ns .1) in
     record {
       size = size;
@@ -138,7 +138,7 @@ pub refusal-zero : (bs : List ℕ) → Accepted-parts bs → drawing-refusal bs 
 unfolding drawing-refusal
 refusal-zero bs a =
     rw (
-      eq-eqb (length bs) 72 (a .size),
+      eq-eqb (length bs) 73 (a .size),
       le-leb 1 n (a .devices-low),
       le-leb n 10 (a .devices-high),
       a .fitting,

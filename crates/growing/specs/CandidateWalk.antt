@@ -13,16 +13,17 @@ use Rattle.laws.specs.Lists.{Mem, snoc, snoc-length, mem-map, mem-front, mem-ba
 use Rattle.laws.specs.Selections.{mem-one}
 use Rattle.laws.specs.Rising.{Rises, rises-apart}
 use Rattle.graphs.specs.Drawing.{Drawing, is-pattern}
-use Rattle.graphs.specs.Survey.{count-true}
+use Rattle.graphs.specs.Survey.{crane-count}
 use Rattle.codes.specs.Code.{Rec, Reading, kinds-before, rec-before-by, recs-in, rows-refusal, fresh, decoded, Least}
 use Rattle.codes.specs.CodeBytes.{recs-in-length}
 use Rattle.codes.specs.CodeOrder.{kinds-order}
 use Rattle.codes.specs.Greedy.{Greedy}
-use Rattle.growth.specs.Catalogue.{Often, support-in}
+use Rattle.growth.specs.Catalogue.{Often-in, support-of}
+use Rattle.growth.specs.Family.{Closed}
 use Rattle.growth.specs.Growth.{Listed-by}
-use Rattle.growth.specs.Frequent.{Frequent, often-closed}
-use Rattle.growth.specs.Places.{Ranks, record-at, record-in-row, cell-number, candidate-of}
-use Rattle.growth.specs.CellLaws.{candidate-place, candidate-cell, cell-number-below}
+use Rattle.growth.specs.Frequent.{often-closed, Frequent-in}
+use Rattle.growth.specs.Places.{Ranks, record-at, record-in-row, crane-cell, candidate-of}
+use Rattle.growth.specs.CellLaws.{candidate-place, candidate-cell, crane-cell-below}
 use Rattle.growth.specs.CountingExtensions.{All-sections}
 use Rattle.growth.specs.Counted.{Extending, rows-extending, first-extending, Candidate, candidate-at, candidate-pattern}
 use Rattle.growth.specs.ListedBy.{place-in, chosen-places, chosen-rise}
@@ -33,7 +34,7 @@ use Rattle.growth.specs.ListingLaws.{none-walked, walked-ahead, walked-more, wa
 use Rattle.entries.specs.declared.output.Growth.{Growth}
 use Rattle.entries.specs.declared.output.Growth.the-variants.{To, Full}
 use Rattle.growing.specs.declared.grow.Settings.{Settings}
-use Rattle.walks.specs.LabelMarks.{drawings-of}
+use Rattle.walks.specs.LabelMarks.{drawings-of, cranes-of}
 use Rattle.walks.specs.PreparedLaws.{drawings-counted, prepared-few, prepared-sections}
 use Rattle.laws.specs.Parts.{part}
 use Rattle.laws.specs.PartLaws.{part-none, part-snoc, part-split, part-has}
@@ -84,7 +85,10 @@ module _ {survey labels rank alphabet : List ℕ} {g : Settings} {γ : List Rec}
   ds = drawings-of survey
 
   abbrev Wanted : List Rec → Type 0
-  Wanted = Frequent kinds-before (drawings-of survey) (g .threshold)
+  Wanted = Frequent-in kinds-before survey (g .threshold)
+
+  closed : Closed (Often-in survey (g .threshold))
+  closed = often-closed (cranes-of survey) (drawings-of survey) (g .threshold)
 
   -- the records of the candidates from `from` up to k
   abbrev up-to : ℕ → List Rec
@@ -104,7 +108,7 @@ module _ {survey labels rank alphabet : List ℕ} {g : Settings} {γ : List Rec}
   rising : Rises (rec-before-by kinds-before) (candidates-in kind γ alphabet (g .labels) (part from top list))
   rising =
       chosen-rise (a .set-up .prepared .ranks) extending (a .counting) (a .set-up .one)
-      (chosen-places (a .sets) (g .threshold) (g .labels) (part from top list) sets-few (a .chosen))
+      (chosen-places (cranes-of survey) (a .sets) (g .threshold) (g .labels) (part from top list) sets-few (a .chosen))
 
   -- ONE CANDIDATE
   module _ (k : ℕ) (low : from ≤ k) (high : k < top) (q : ℕ) (there : q ≡ getD list k 0) where
@@ -114,27 +118,29 @@ module _ {survey labels rank alphabet : List ℕ} {g : Settings} {γ : List Rec}
     abbrev next : Rec
     next = record-at (basis kind γ) alphabet (g .labels) (q / (2 ^ 40))
 
-    listed-cell : (p : ℕ) × (candidate-of p (cell-number (a .sets p)) ≡ q) × (g .threshold ≤ count-true (a .sets p))
+    listed-cell : (p : ℕ)
+        × (candidate-of p (crane-cell (cranes-of survey) (a .sets p)) ≡ q)
+        × (g .threshold ≤ crane-count (cranes-of survey) (a .sets p))
     listed-cell = a .chosen .often q (mem-eq (sym there) (part-has from top list within k low high))
 
     place-is : listed-cell .0 ≡ q / (2 ^ 40)
     place-is =
-        sym (candidate-place (listed-cell .0) (cell-number (a .sets (listed-cell .0)))
-        (cell-number-below (a .sets (listed-cell .0)) (sets-few (listed-cell .0))))
+        sym (candidate-place (listed-cell .0) (crane-cell (cranes-of survey) (a .sets (listed-cell .0)))
+        (crane-cell-below (cranes-of survey) (a .sets (listed-cell .0)) (sets-few (listed-cell .0))))
         ∙ ap (λ (y : ℕ). y / (2 ^ 40)) (listed-cell .1)
 
-    cell-is : q % (2 ^ 40) ≡ cell-number (a .sets (q / (2 ^ 40)))
+    cell-is : q % (2 ^ 40) ≡ crane-cell (cranes-of survey) (a .sets (q / (2 ^ 40)))
     cell-is =
         ap (λ (y : ℕ). y % (2 ^ 40)) (sym (listed-cell .1))
-        ∙ candidate-cell (listed-cell .0) (cell-number (a .sets (listed-cell .0)))
-        (cell-number-below (a .sets (listed-cell .0)) (sets-few (listed-cell .0)))
-        ∙ ap (λ (p : ℕ). cell-number (a .sets p)) place-is
+        ∙ candidate-cell (listed-cell .0) (crane-cell (cranes-of survey) (a .sets (listed-cell .0)))
+        (crane-cell-below (cranes-of survey) (a .sets (listed-cell .0)) (sets-few (listed-cell .0)))
+        ∙ ap (λ (p : ℕ). crane-cell (cranes-of survey) (a .sets p)) place-is
 
-    often : g .threshold ≤ count-true (a .sets (q / (2 ^ 40)))
-    often = subst (λ (p : ℕ). g .threshold ≤ count-true (a .sets p)) place-is (listed-cell .2)
+    often : g .threshold ≤ crane-count (cranes-of survey) (a .sets (q / (2 ^ 40)))
+    often = subst (λ (p : ℕ). g .threshold ≤ crane-count (cranes-of survey) (a .sets p)) place-is (listed-cell .2)
 
     candidate : Candidate extending (a .counting) (q / (2 ^ 40))
-    candidate = candidate-at extending (a .counting) place-at (omega (arith, often, a .set-up .one))
+    candidate = candidate-at extending (a .counting) (cranes-of survey) place-at (omega (arith, often, a .set-up .one))
 
     some-label : 0 < g .labels
     some-label = omega (arith, candidate .below)
@@ -166,14 +172,14 @@ module _ {survey labels rank alphabet : List ℕ} {g : Settings} {γ : List Rec}
     walk-comes = record { can-read = walk-reads; accepted = fits-accepted; drawn = drawn }
 
     module _ {δ : List Rec} (t : δ ≡ snoc γ (record-at (basis kind γ) alphabet (g .labels) (q / (2 ^ 40)))) where
-      held-candidate : Candidate-held (drawings-of survey) (g .threshold) δ (q % (2 ^ 40))
+      held-candidate : Candidate-held (cranes-of survey) (drawings-of survey) (g .threshold) δ (q % (2 ^ 40))
       held-candidate =
-          subst (λ (c : List Rec). Candidate-held ds (g .threshold) c (q % (2 ^ 40))) (sym t)
+          subst (λ (c : List Rec). Candidate-held (cranes-of survey) ds (g .threshold) c (q % (2 ^ 40))) (sym t)
           (record {
             accepted = fits-accepted;
             drawn = drawn;
-            often = omega (arith, often, candidate .support-is);
-            cell-is = cell-is ∙ ap cell-number (candidate .containing-is);
+            often = omega (arith, often, candidate .support-is (cranes-of survey));
+            cell-is = cell-is ∙ ap (crane-cell (cranes-of survey)) (candidate .containing-is);
           })
 
       walk-grows-on :
@@ -254,16 +260,16 @@ module _ {survey labels rank alphabet : List ℕ} {g : Settings} {γ : List Rec}
         }
       where
         step : (cs : List (List Rec)) (old : List ℕ)
-            → Lists-more (support-in (drawings-of survey)) (Listed-by kinds-before kinds-order
-            (Frequent kinds-before (drawings-of survey) (g .threshold)) (g .limit) γ
+            → Lists-more (support-of survey) (Listed-by kinds-before kinds-order
+            (Frequent-in kinds-before survey (g .threshold)) (g .limit) γ
             (candidates-in kind γ alphabet (g .labels) (part from k list))) cs old out₁ written
-            → Lists-more (support-in (drawings-of survey)) (Listed-by kinds-before kinds-order
-            (Frequent kinds-before (drawings-of survey) (g .threshold)) (g .limit) γ
+            → Lists-more (support-of survey) (Listed-by kinds-before kinds-order
+            (Frequent-in kinds-before survey (g .threshold)) (g .limit) γ
             (candidates-in kind γ alphabet (g .labels) (part from (k + 1) list))) cs old out₁ written
         step cs old x =
-            subst (λ (es : List Rec). Lists-more (support-in ds) (Listed-by kinds-before kinds-order Wanted (g .limit) γ es) cs old out₁ written)
+            subst (λ (es : List Rec). Lists-more (support-of survey) (Listed-by kinds-before kinds-order Wanted (g .limit) γ es) cs old out₁ written)
             (sym up-next)
-            (walked-past (Often ds (g .threshold)) (support-in ds) (g .limit) (often-closed ds (g .threshold)) γ (up-to k) next later x
+            (walked-past (Often-in survey (g .threshold)) (support-of survey) (g .limit) closed γ (up-to k) next later x
             (λ f. bad (f .least)))
 
     -- AFTER IT
@@ -273,18 +279,18 @@ module _ {survey labels rank alphabet : List ℕ} {g : Settings} {γ : List Rec}
         {cells₂ seen₂ list₂ out₂ : List ℕ} where
       outcome : {v : Growth} → Pattern-grown survey g δ cells₂ seen₂ list₁ top list₂ out₁ written v out₂
           → (cs : List (List Rec)) (old : List ℕ)
-          → Ahead-of kinds-before kinds-order (Often (drawings-of survey) (g .threshold)) (g .limit) cs γ
+          → Ahead-of kinds-before kinds-order (Often-in survey (g .threshold)) (g .limit) cs γ
           (candidates-in kind γ alphabet (g .labels) (part from top list))
-          → (m : Lists-more (support-in (drawings-of survey)) (Listed-by kinds-before kinds-order
-          (Frequent kinds-before (drawings-of survey) (g .threshold)) (g .limit) γ
+          → (m : Lists-more (support-of survey) (Listed-by kinds-before kinds-order
+          (Frequent-in kinds-before survey (g .threshold)) (g .limit) γ
           (candidates-in kind γ alphabet (g .labels) (part from k list))) cs old out₁ written)
-          → Outcome (Often (drawings-of survey) (g .threshold)) (support-in (drawings-of survey)) (g .limit)
-          (Gives kinds-before kinds-order (Often (drawings-of survey) (g .threshold)) (g .limit) δ) (cs ++ m .more) old out₂ v
+          → Outcome (Often-in survey (g .threshold)) (support-of survey) (g .limit)
+          (Gives kinds-before kinds-order (Often-in survey (g .threshold)) (g .limit) δ) (cs ++ m .more) old out₂ v
       outcome u cs old b m =
           u .told (cs ++ m .more) old
-          (subst (Ahead kinds-before kinds-order (Often ds (g .threshold)) (g .limit) (cs ++ m .more)) (sym t)
-          (walked-ahead (Often ds (g .threshold)) (support-in ds) (g .limit) (often-closed ds (g .threshold)) γ (up-to k) next later m
-          (ahead-fewer kinds-before kinds-order (Often ds (g .threshold)) (g .limit) among b))) (m .lists)
+          (subst (Ahead kinds-before kinds-order (Often-in survey (g .threshold)) (g .limit) (cs ++ m .more)) (sym t)
+          (walked-ahead (Often-in survey (g .threshold)) (support-of survey) (g .limit) closed γ (up-to k) next later m
+          (ahead-fewer kinds-before kinds-order (Often-in survey (g .threshold)) (g .limit) among b))) (m .lists)
 
       walk-full : Pattern-grown survey g δ cells₂ seen₂ list₁ top list₂ out₁ written Full out₂
           → Candidates-walked survey alphabet g kind γ cells₂ seen₂ list from top list₂ out count Full out₂
@@ -311,19 +317,19 @@ module _ {survey labels rank alphabet : List ℕ} {g : Settings} {γ : List Rec}
           }
         where
           step : (cs : List (List Rec)) (old : List ℕ)
-              → (x : Lists-more (support-in (drawings-of survey)) (Listed-by kinds-before kinds-order
-              (Frequent kinds-before (drawings-of survey) (g .threshold)) (g .limit) γ
+              → (x : Lists-more (support-of survey) (Listed-by kinds-before kinds-order
+              (Frequent-in kinds-before survey (g .threshold)) (g .limit) γ
               (candidates-in kind γ alphabet (g .labels) (part from k list))) cs old out₁ written)
-              → Lists-more (support-in (drawings-of survey)) (Gives kinds-before kinds-order (Often (drawings-of survey) (g .threshold)) (g .limit)
+              → Lists-more (support-of survey) (Gives kinds-before kinds-order (Often-in survey (g .threshold)) (g .limit)
               δ) (cs ++ x .more) old out₂ m
-              → Lists-more (support-in (drawings-of survey)) (Listed-by kinds-before kinds-order
-              (Frequent kinds-before (drawings-of survey) (g .threshold)) (g .limit) γ
+              → Lists-more (support-of survey) (Listed-by kinds-before kinds-order
+              (Frequent-in kinds-before survey (g .threshold)) (g .limit) γ
               (candidates-in kind γ alphabet (g .labels) (part from (k + 1) list))) cs old out₂ m
           step cs old x y =
-              subst (λ (es : List Rec). Lists-more (support-in ds) (Listed-by kinds-before kinds-order Wanted (g .limit) γ es) cs old out₂ m)
+              subst (λ (es : List Rec). Lists-more (support-of survey) (Listed-by kinds-before kinds-order Wanted (g .limit) γ es) cs old out₂ m)
               (sym up-next)
-              (walked-more (Often ds (g .threshold)) (support-in ds) (g .limit) (often-closed ds (g .threshold)) γ (up-to k) next later x
-              (subst (λ (c : List Rec). Lists-more (support-in ds) (Gives kinds-before kinds-order (Often ds (g .threshold)) (g .limit) c)
+              (walked-more (Often-in survey (g .threshold)) (support-of survey) (g .limit) closed γ (up-to k) next later x
+              (subst (λ (c : List Rec). Lists-more (support-of survey) (Gives kinds-before kinds-order (Often-in survey (g .threshold)) (g .limit) c)
               (cs ++ x .more) old out₂ m) t y))
 
   -- THE START AND THE END
@@ -337,9 +343,9 @@ module _ {survey labels rank alphabet : List ℕ} {g : Settings} {γ : List Rec}
         size = refl;
         room = a .out-room;
         told = λ cs old b l.
-            subst (λ (qs : List ℕ). Lists-more (support-in ds) (Listed-by kinds-before kinds-order Wanted (g .limit) γ
+            subst (λ (qs : List ℕ). Lists-more (support-of survey) (Listed-by kinds-before kinds-order Wanted (g .limit) γ
             (candidates-in kind γ alphabet (g .labels) qs)) cs old out count) (sym (part-none from list))
-            (none-walked (Often ds (g .threshold)) (support-in ds) (g .limit) γ (a .out-room) l);
+            (none-walked (Often-in survey (g .threshold)) (support-of survey) (g .limit) γ (a .out-room) l);
       }
 
   walk-ends : {cells₁ seen₁ list₁ out₁ : List ℕ} {k written : ℕ} → top ≤ k
@@ -353,7 +359,7 @@ module _ {survey labels rank alphabet : List ℕ} {g : Settings} {γ : List Rec}
         size = w .size;
         room = w .room;
         told = λ cs old b l.
-            subst (λ (i : ℕ). Lists-more (support-in ds) (Listed-by kinds-before kinds-order Wanted (g .limit) γ (up-to i)) cs old out₁ written) z
+            subst (λ (i : ℕ). Lists-more (support-of survey) (Listed-by kinds-before kinds-order Wanted (g .limit) γ (up-to i)) cs old out₁ written) z
             (w .told cs old b l);
       }
 

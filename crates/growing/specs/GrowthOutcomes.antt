@@ -10,10 +10,10 @@ use Rattle.codes.specs.Code.{Rec, fresh, rows-refusal, decoded, kinds-before}
 use Rattle.codes.specs.CodeOrder.{kinds-order}
 use Rattle.codes.specs.Greedy.{Greedy}
 use Rattle.codes.specs.OwnNumbering.{Well-grown}
-use Rattle.growth.specs.Catalogue.{Often, support-in}
+use Rattle.growth.specs.Catalogue.{Often-in, support-of}
 use Rattle.growth.specs.Growth.{Listed-by}
-use Rattle.growth.specs.Frequent.{Frequent}
-use Rattle.growth.specs.Places.{place-of, cell-number}
+use Rattle.growth.specs.Frequent.{Frequent-in}
+use Rattle.growth.specs.Places.{place-of, crane-cell}
 use Rattle.growth.specs.CountingExtensions.{Counting, First-of}
 use Rattle.growth.specs.Floors.{Grown-above}
 use Rattle.growth.specs.ListedBy.{Chosen-cells, place-in, records-at}
@@ -25,7 +25,7 @@ use Rattle.entries.specs.ListOutcomes.{Outcome, Room-left}
 use Rattle.entries.specs.declared.output.Growth.{Growth}
 use Rattle.entries.specs.declared.output.Growth.the-variants.{To, Full}
 use Rattle.growing.specs.declared.grow.Settings.{Settings}
-use Rattle.walks.specs.LabelMarks.{drawings-of}
+use Rattle.walks.specs.LabelMarks.{drawings-of, cranes-of}
 use Rattle.walks.specs.Prepared.{Prepared}
 use Rattle.walks.specs.Counts.{Blank}
 use Rattle.laws.specs.Parts.{part}
@@ -45,19 +45,19 @@ pub record At-hand (cells seen list : List ℕ) (base level : ℕ) : Type 0 wher
   pub list-size : length list ≡ candidates-size
   pub room : base ≤ places-size * level
 
--- THE CODE THAT IS TO GROW describes a pattern that enough drawings contain; its cell tells which
-pub record Candidate-held (ds : List Drawing) (s : ℕ) (γ : List Rec) (cell : ℕ) : Type 0 where
+-- THE CODE THAT IS TO GROW describes a pattern that drawings of enough cranes contain; its cell tells which
+pub record Candidate-held (cr : List ℕ) (ds : List Drawing) (s : ℕ) (γ : List Rec) (cell : ℕ) : Type 0 where
   pub accepted : rows-refusal fresh γ ≡ 0
   pub drawn : is-pattern (decoded γ) ≡ true
-  pub often : s ≤ support (decoded γ) ds
-  pub cell-is : cell ≡ cell-number (containing (decoded γ) ds)
+  pub often : s ≤ support (decoded γ) cr ds
+  pub cell-is : cell ≡ crane-cell cr (containing (decoded γ) ds)
 
 pub record Can-grow-pattern (survey labels rank alphabet : List ℕ) (g : Settings) (γ : List Rec) (cell : ℕ) (cells seen list : List ℕ) (base : ℕ)
     (out : List ℕ) (count : ℕ) : Type 0 where
   pub set-up : Set-up survey labels rank alphabet g
   pub some : 1 ≤ length γ
   pub most : length γ ≤ g .limit
-  pub candidate : Candidate-held (drawings-of survey) (g .threshold) γ cell
+  pub candidate : Candidate-held (cranes-of survey) (drawings-of survey) (g .threshold) γ cell
   pub well : Well-grown γ
   pub at-hand : At-hand cells seen list base (length γ)
   pub out-room : 42 * count ≤ length out
@@ -76,10 +76,10 @@ pub record Pattern-grown (survey : List ℕ) (g : Settings) (γ : List Rec) (cel
   pub size : length out-now ≡ length out
   pub room : Room-left out-now r
   pub told :
-      (cs : List (List Rec)) (old : List ℕ) → Ahead kinds-before kinds-order (Often (drawings-of survey) (g .threshold)) (g .limit) cs γ
-      → Lists (support-in (drawings-of survey)) cs old out count
-      → Outcome (Often (drawings-of survey) (g .threshold)) (support-in (drawings-of survey)) (g .limit)
-      (Gives kinds-before kinds-order (Often (drawings-of survey) (g .threshold))
+      (cs : List (List Rec)) (old : List ℕ) → Ahead kinds-before kinds-order (Often-in survey (g .threshold)) (g .limit) cs γ
+      → Lists (support-of survey) cs old out count
+      → Outcome (Often-in survey (g .threshold)) (support-of survey) (g .limit)
+      (Gives kinds-before kinds-order (Often-in survey (g .threshold))
       (g .limit) γ) cs old
       out-now r
 
@@ -103,7 +103,7 @@ pub record Can-walk-candidates (survey labels rank alphabet : List ℕ) (g : Set
   pub floors : List ℕ
   pub counting :
       Counting (place-of rank (g .labels)) (Fit kind floors γ) (drawings-of survey) (length (drawings-of survey)) sets
-  pub chosen : Chosen-cells sets (g .threshold) (g .labels) (part from top list)
+  pub chosen : Chosen-cells (cranes-of survey) sets (g .threshold) (g .labels) (part from top list)
   pub low : from ≤ top
   pub at-hand : At-hand cells seen list top (suc (length γ))
   pub out-room : 42 * count ≤ length out
@@ -118,11 +118,11 @@ pub record Candidates-walked (survey alphabet : List ℕ) (g : Settings) (kind :
   pub room : Room-left out-now r
   pub told :
       (cs : List (List Rec)) (old : List ℕ)
-      → Ahead-of kinds-before kinds-order (Often (drawings-of survey) (g .threshold)) (g .limit) cs γ
+      → Ahead-of kinds-before kinds-order (Often-in survey (g .threshold)) (g .limit) cs γ
       (candidates-in kind γ alphabet (g .labels) (part from top list))
-      → Lists (support-in (drawings-of survey)) cs old out count
-      → Outcome (Often (drawings-of survey) (g .threshold)) (support-in (drawings-of survey)) (g .limit)
-      (Listed-by kinds-before kinds-order (Frequent kinds-before (drawings-of survey) (g .threshold)) (g .limit) γ
+      → Lists (support-of survey) cs old out count
+      → Outcome (Often-in survey (g .threshold)) (support-of survey) (g .limit)
+      (Listed-by kinds-before kinds-order (Frequent-in kinds-before survey (g .threshold)) (g .limit) γ
       (candidates-in kind γ alphabet (g .labels) (part from top list)))
       cs old out-now r
 
@@ -137,10 +137,10 @@ pub record On-the-way (survey alphabet : List ℕ) (g : Settings) (kind : ℕ) (
   pub room : 42 * written ≤ length out-now
   pub told :
       (cs : List (List Rec)) (old : List ℕ)
-      → Ahead-of kinds-before kinds-order (Often (drawings-of survey) (g .threshold)) (g .limit) cs γ
+      → Ahead-of kinds-before kinds-order (Often-in survey (g .threshold)) (g .limit) cs γ
       (candidates-in kind γ alphabet (g .labels) (part from top list))
-      → Lists (support-in (drawings-of survey)) cs old out count
-      → Lists-more (support-in (drawings-of survey))
-      (Listed-by kinds-before kinds-order (Frequent kinds-before (drawings-of survey) (g .threshold)) (g .limit) γ
+      → Lists (support-of survey) cs old out count
+      → Lists-more (support-of survey)
+      (Listed-by kinds-before kinds-order (Frequent-in kinds-before survey (g .threshold)) (g .limit) γ
       (candidates-in kind γ alphabet (g .labels) (part from k list)))
       cs old out-now written

@@ -16,12 +16,13 @@ use Rattle.codes.specs.Code.{Rec, recs-in, decoded, kinds-before, Least}
 use Rattle.codes.specs.CodeBytes.{recs-in-length}
 use Rattle.codes.specs.CodeOrder.{kinds-order}
 use Rattle.codes.specs.LeastCode.{least-greedy}
-use Rattle.growth.specs.Catalogue.{entry, entry-bytes, Often, support-in}
+use Rattle.growth.specs.Catalogue.{entry, entry-bytes, Often-in, support-of}
 use Rattle.growth.specs.Family.{Listable, entry-for}
 use Rattle.growth.specs.Growth.{Listed, Listed-by}
-use Rattle.growth.specs.Frequent.{Frequent}
-use Rattle.growth.specs.Places.{place-of}
-use Rattle.growth.specs.CellLaws.{cell-count-is, count-true-bound}
+use Rattle.growth.specs.Frequent.{Frequent, Frequent-in}
+use Rattle.growth.specs.Places.{place-of, cell-set}
+use Rattle.growth.specs.CellLaws.{crane-cell-set, crane-cell-count, count-true-bound}
+use Rattle.graphs.specs.CraneCounts.{crane-count-bound}
 use Rattle.growth.specs.CountingExtensions.{All-sections, Counting}
 use Rattle.codes.specs.ReadRows.{good-from-test}
 use Rattle.growth.specs.Floors.{Floors-of, Above, Grown-above}
@@ -37,7 +38,7 @@ use Rattle.growing.specs.declared.grow.Settings.{Settings}
 use Rattle.taking.specs.declared.take.Taken.{Taken}
 use Rattle.taking.specs.declared.take.Taken.the-variants as answers
 use Rattle.taking.specs.declared.take.Taken.the-variants.{Passed, Written}
-use Rattle.walks.specs.LabelMarks.{drawings-of}
+use Rattle.walks.specs.LabelMarks.{drawings-of, cranes-of}
 use Rattle.laws.specs.PutRecords.{put-record}
 use Rattle.laws.specs.PutRecordLaws.{put-length}
 use Rattle.growth.specs.EntryLaws.{entry-size}
@@ -76,12 +77,12 @@ listed-above γ floors laid e f =
 
 -- so the candidates hold all that goes on
 pub candidates-listed :
-    {ds : List Drawing} {rank alphabet : List ℕ} {n : ℕ} {sets : ℕ → List Bool} {s : ℕ} (qs : List ℕ) → All-sections ds
+    {ds : List Drawing} {rank alphabet : List ℕ} {n : ℕ} {sets : ℕ → List Bool} {cr : List ℕ} {s : ℕ} (qs : List ℕ) → All-sections ds
     → Rattle.growth.specs.Places.Ranks ds rank alphabet n → (k : ℕ) (floors : List ℕ) (γ : List Rec) → 1 ≤ length γ → length γ ≤ 7
-    → Floors-of γ floors → Counting (place-of rank n) (Fit k floors γ) ds (length ds) sets → 1 ≤ s → Chosen-places sets s n (map place-in qs)
+    → Floors-of γ floors → Counting (place-of rank n) (Fit k floors γ) ds (length ds) sets → 1 ≤ s → Chosen-places cr sets s n (map place-in qs)
     → (l : ℕ) (cs : List (List Rec))
-    → Listed-by kinds-before kinds-order (Frequent kinds-before ds s) l γ (candidates-in k γ alphabet n qs) cs
-    → Listed kinds-before kinds-order (Frequent kinds-before ds s) l γ cs
+    → Listed-by kinds-before kinds-order (Frequent kinds-before cr ds s) l γ (candidates-in k γ alphabet n qs) cs
+    → Listed kinds-before kinds-order (Frequent kinds-before cr ds s) l γ cs
 candidates-listed qs sections o k floors [] some few laid c one h l cs t = absurd (omega arith)
 candidates-listed qs sections o k floors (r ∷ rs) some few laid c one h l cs t =
     chosen-listed sections o r rs few floors c (listed-above (r ∷ rs) floors laid) one h l cs t
@@ -98,15 +99,22 @@ module _ {survey labels rank alphabet : List ℕ} {g : Settings} {γ : List Rec}
   unfolding containing
   containing-few = omega (arith, length-map (drawings-of survey) (contains (decoded γ)), few)
 
-  counted : cell / (2 ^ 32) ≡ support (decoded γ) (drawings-of survey)
+  counted : cell / (2 ^ 32) ≡ support (decoded γ) (cranes-of survey) (drawings-of survey)
   unfolding support
-  counted = ap (λ (k : ℕ). k / (2 ^ 32)) (a .candidate .cell-is) ∙ cell-count-is (containing (decoded γ) ds) containing-few
+  counted = ap (λ (k : ℕ). k / (2 ^ 32)) (a .candidate .cell-is) ∙ crane-cell-count (cranes-of survey) (containing (decoded γ) ds) containing-few
 
   support-few : cell / (2 ^ 32) ≤ 32
   unfolding support
-  support-few = omega (arith, counted, count-true-bound (containing (decoded γ) ds), containing-few)
+  support-few =
+      omega (
+        arith,
+        counted,
+        crane-count-bound (cranes-of survey) (containing (decoded γ) ds),
+        count-true-bound (containing (decoded γ) ds),
+        containing-few,
+      )
 
-  frequent : Least (decoded γ) γ → Frequent kinds-before (drawings-of survey) (g .threshold) γ
+  frequent : Least (decoded γ) γ → Frequent-in kinds-before survey (g .threshold) γ
   frequent l = record { drawn = a .candidate .drawn; least = l; wanted = a .candidate .often }
 
   same-list : List-kept base list list
@@ -122,8 +130,9 @@ module _ {survey labels rank alphabet : List ℕ} {g : Settings} {γ : List Rec}
         size = ap length e;
         room = omega (arith, a .out-room, ap length e);
         told = λ cs old p t.
-            gives-nothing (Often ds (g .threshold)) (support-in ds) (g .limit) (λ f. bad (f .least)) (omega (arith, a .out-room, ap length e))
-            (subst (λ (y : List ℕ). Lists (support-in ds) cs old y count) (sym e) t);
+            gives-nothing (Often-in survey (g .threshold)) (support-of survey) (g .limit) (λ f. bad (f .least))
+            (omega (arith, a .out-room, ap length e))
+            (subst (λ (y : List ℕ). Lists (support-of survey) cs old y count) (sym e) t);
       }
 
   -- NO ROOM
@@ -136,28 +145,28 @@ module _ {survey labels rank alphabet : List ℕ} {g : Settings} {γ : List Rec}
         kept = same-list;
         size = ap length e;
         room = omega arith;
-        told = λ cs old p t. listed-too-many (Often ds (g .threshold)) (support-in ds) (g .limit) (frequent l) (a .most) p t
+        told = λ cs old p t. listed-too-many (Often-in survey (g .threshold)) (support-of survey) (g .limit) (frequent l) (a .most) p t
             (omega (arith, ap length e));
       }
 
   -- WRITTEN
   module _ {mid : List ℕ} (p : Entry-put γ cell count out mid) where
-    own : mid ≡ put-record 42 count (entry-bytes (entry-for (support-in (drawings-of survey)) γ)) out
+    own : mid ≡ put-record 42 count (entry-bytes (entry-for (support-of survey) γ)) out
     own = p .is ∙ ap (λ (k : ℕ). put-record 42 count (entry-bytes (entry k γ)) out) counted
 
     mid-size : length mid ≡ length out
     mid-size =
         ap length own
-        ∙ put-length 42 count (entry-bytes (entry-for (support-in ds) γ)) out
-        (entry-size (entry-for (support-in ds) γ) (omega (arith, a .most, a .set-up .small))) (p .room)
+        ∙ put-length 42 count (entry-bytes (entry-for (support-of survey) γ)) out
+        (entry-size (entry-for (support-of survey) γ) (omega (arith, a .most, a .set-up .small))) (p .room)
 
-    low : (cs : List (List Rec)) → Done kinds-before kinds-order (Often (drawings-of survey) (g .threshold)) (g .limit) cs → (c : List Rec)
+    low : (cs : List (List Rec)) → Done kinds-before kinds-order (Often-in survey (g .threshold)) (g .limit) cs → (c : List Rec)
         → Mem c cs → length c ≤ 8
     low cs d c m = omega (arith, d .right c m .1, a .set-up .small)
 
-    listed : (cs : List (List Rec)) (old : List ℕ) → Ahead kinds-before kinds-order (Often (drawings-of survey) (g .threshold)) (g .limit) cs γ
-        → Lists (support-in (drawings-of survey)) cs old out count → Lists (support-in (drawings-of survey)) (snoc cs γ) old mid (count + 1)
-    listed cs old e t = lists-next (support-in ds) cs γ old out mid count (low cs (e .done)) t own
+    listed : (cs : List (List Rec)) (old : List ℕ) → Ahead kinds-before kinds-order (Often-in survey (g .threshold)) (g .limit) cs γ
+        → Lists (support-of survey) cs old out count → Lists (support-of survey) (snoc cs γ) old mid (count + 1)
+    listed cs old e t = lists-next (support-of survey) cs γ old out mid count (low cs (e .done)) t own
 
     mid-room : 42 * (count + 1) ≤ length mid
     mid-room = omega (arith, mid-size, p .room)
@@ -171,7 +180,7 @@ module _ {survey labels rank alphabet : List ℕ} {g : Settings} {γ : List Rec}
           size = mid-size;
           room = mid-room;
           told = λ cs old q t.
-              gives-leaf (Often ds (g .threshold)) (support-in ds) (g .limit) (frequent (p .least)) (a .most) q (omega arith) mid-room
+              gives-leaf (Often-in survey (g .threshold)) (support-of survey) (g .limit) (frequent (p .least)) (a .most) q (omega arith) mid-room
               (listed cs old q t);
         }
 
@@ -189,7 +198,7 @@ module _ {survey labels rank alphabet : List ℕ} {g : Settings} {γ : List Rec}
         }
 
     module _ {cells₂ seen₂ list₂ : List ℕ} {top : ℕ}
-        (c : Candidates-chosen (drawings-of survey) γ rank (g .labels) (g .threshold) cells₂ seen₂ list base list₂ top) where
+        (c : Candidates-chosen (cranes-of survey) (drawings-of survey) γ rank (g .labels) (g .threshold) cells₂ seen₂ list base list₂ top) where
       sets-few : (p : ℕ) → length (c .sets p) ≤ 32
       sets-few p = omega (arith, c .counting .size p, few)
 
@@ -222,33 +231,33 @@ module _ {survey labels rank alphabet : List ℕ} {g : Settings} {γ : List Rec}
             room = w .room;
             told = λ cs old q u.
                 go cs old q r (w .told (snoc cs γ) old (ahead cs q)
-                (subst (λ (k : ℕ). Lists (support-in ds) (snoc cs γ) old mid k) (sym (o .one-more)) (listed (o .put) cs old q u)));
+                (subst (λ (k : ℕ). Lists (support-of survey) (snoc cs γ) old mid k) (sym (o .one-more)) (listed (o .put) cs old q u)));
           }
         where
-          ahead : (cs : List (List Rec)) → Ahead kinds-before kinds-order (Often (drawings-of survey) (g .threshold)) (g .limit) cs γ
-              → Ahead-of kinds-before kinds-order (Often (drawings-of survey) (g .threshold)) (g .limit) (snoc cs γ) γ
+          ahead : (cs : List (List Rec)) → Ahead kinds-before kinds-order (Often-in survey (g .threshold)) (g .limit) cs γ
+              → Ahead-of kinds-before kinds-order (Often-in survey (g .threshold)) (g .limit) (snoc cs γ) γ
               (candidates-in 0 γ alphabet (g .labels) (part base top list₂))
-          ahead cs q = listed-ahead (Often ds (g .threshold)) (support-in ds) (g .limit) (frequent (o .put .least)) (a .most) q _
+          ahead cs q = listed-ahead (Often-in survey (g .threshold)) (support-of survey) (g .limit) (frequent (o .put .least)) (a .most) q _
 
           all : (more : List (List Rec))
-              → Listed-by kinds-before kinds-order (Frequent kinds-before (drawings-of survey) (g .threshold)) (g .limit) γ
+              → Listed-by kinds-before kinds-order (Frequent-in kinds-before survey (g .threshold)) (g .limit) γ
               (candidates-in 0 γ alphabet (g .labels) (part base top list₂)) more
-              → Listed kinds-before kinds-order (Frequent kinds-before (drawings-of survey) (g .threshold)) (g .limit) γ more
+              → Listed kinds-before kinds-order (Frequent-in kinds-before survey (g .threshold)) (g .limit) γ more
           all more =
               candidates-listed (part base top list₂) (prepared-sections (a .set-up .prepared)) (a .set-up .prepared .ranks) 0
               (c .floors) γ (a .some) (omega (arith, less, a .set-up .small)) (c .laid)
               (fit-grown 0 (c .floors) γ (a .some) (c .counting)) (a .set-up .one)
-              (chosen-places (c .sets) (g .threshold) (g .labels) (part base top list₂) sets-few (c .chosen)) (g .limit) more
+              (chosen-places (cranes-of survey) (c .sets) (g .threshold) (g .labels) (part base top list₂) sets-few (c .chosen)) (g .limit) more
 
-          go : (cs : List (List Rec)) (old : List ℕ) → Ahead kinds-before kinds-order (Often (drawings-of survey) (g .threshold)) (g .limit) cs γ
+          go : (cs : List (List Rec)) (old : List ℕ) → Ahead kinds-before kinds-order (Often-in survey (g .threshold)) (g .limit) cs γ
               → (r : Growth)
-              → Outcome (Often (drawings-of survey) (g .threshold)) (support-in (drawings-of survey)) (g .limit)
-              (Listed-by kinds-before kinds-order (Frequent kinds-before (drawings-of survey) (g .threshold)) (g .limit) γ
+              → Outcome (Often-in survey (g .threshold)) (support-of survey) (g .limit)
+              (Listed-by kinds-before kinds-order (Frequent-in kinds-before survey (g .threshold)) (g .limit) γ
               (candidates-in 0 γ alphabet (g .labels) (part base top list₂))) (snoc cs γ) old z r
-              → Outcome (Often (drawings-of survey) (g .threshold)) (support-in (drawings-of survey)) (g .limit)
-              (Gives kinds-before kinds-order (Often (drawings-of survey) (g .threshold)) (g .limit) γ) cs old z r
+              → Outcome (Often-in survey (g .threshold)) (support-of survey) (g .limit)
+              (Gives kinds-before kinds-order (Often-in survey (g .threshold)) (g .limit) γ) cs old z r
           go cs old q (To k) m =
-              gives-listed (Often ds (g .threshold)) (support-in ds) (g .limit) (frequent (o .put .least)) (a .most) q
+              gives-listed (Often-in survey (g .threshold)) (support-of survey) (g .limit) (frequent (o .put .least)) (a .most) q
               (record { more = m .more; which = all (m .more) (m .which); lists = m .lists; room = m .room })
           go cs old q Full m = m
 
@@ -293,5 +302,7 @@ module _ {survey labels rank alphabet : List ℕ} {g : Settings} {code kinds : L
         accepted = a .candidate .accepted;
         some = omega (arith, recs-in-length m code, a .some);
         few = omega (arith, recs-in-length m code, a .most, a .set-up .small);
-        cell-is = a .candidate .cell-is;
+        set-is =
+            ap cell-set (a .candidate .cell-is)
+            ∙ crane-cell-set (cranes-of survey) (containing (decoded (recs-in m code)) (drawings-of survey)) (containing-few a);
       }

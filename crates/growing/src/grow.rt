@@ -23,7 +23,7 @@ ghost use Rattle.growing.specs.GrowthOutcomes.{growth-of, Can-grow-patte
 ghost use Rattle.growing.specs.GrowthOutcomes.{Pattern-grown, Can-walk-candidates, Candidates-walked};
 ghost use Rattle.extending.specs.HeldCode.{Code-held, Code-kept};
 
-// What a catalogue is asked for: the number of the survey's labels, how many drawings have to contain a pattern, and how
+// What a catalogue is asked for: the number of the survey's labels, of how many cranes drawings have to contain a pattern, and how
 // many cables it may have.
 pub struct Settings {
     pub labels: usize,

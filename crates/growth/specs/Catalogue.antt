@@ -8,7 +8,7 @@ use lib.ListN.{length, replicate}
 use Rattle.laws.specs.Lists.{Mem, concat}
 use Rattle.laws.specs.Rising.{Rises}
 use Rattle.graphs.specs.Drawing.{Drawing, is-pattern, byte-list}
-use Rattle.graphs.specs.Survey.{survey, survey-refusal, support}
+use Rattle.graphs.specs.Survey.{survey, cranes, survey-refusal, support}
 use Rattle.codes.specs.Code.{Rec, rec-bytes, before-by, Least-by, kinds-before}
 
 pub record Entry : Type 0 where
@@ -36,20 +36,27 @@ pub record List-of (labels : Rec → Rec → Bool) (Wanted : Drawing → Type 0)
       (p : Drawing) (rs : List Rec) → is-pattern p ≡ true → length (p .cables) ≤ l → Wanted p → Least-by labels p rs
       → Mem (entry (figure p) rs) es
 
--- A CATALOGUE: the patterns that at least s drawings contain, each with its support
-abbrev pub Often : (ds : List Drawing) (s : ℕ) → Drawing → Type 0
-Often ds s p = s ≤ support p ds
+-- A CATALOGUE: the patterns that drawings of at least s cranes contain, each with its support. `cr` has the crane of each drawing.
+abbrev pub Often : (cr : List ℕ) (ds : List Drawing) (s : ℕ) → Drawing → Type 0
+Often cr ds s p = s ≤ support p cr ds
 
-abbrev pub support-in : List Drawing → Drawing → ℕ
-support-in ds p = support p ds
+abbrev pub support-in : (cr : List ℕ) (ds : List Drawing) → Drawing → ℕ
+support-in cr ds p = support p cr ds
 
-abbrev pub Frequent-entry : (labels : Rec → Rec → Bool) (ds : List Drawing) (s l : ℕ) → Entry → Type 0
-Frequent-entry labels ds s = Entry-of labels (Often ds s) (support-in ds)
+-- of a survey's bytes
+abbrev pub Often-in : (bytes : List ℕ) (s : ℕ) → Drawing → Type 0
+Often-in bs = Often (cranes bs) (survey bs)
 
-abbrev pub Catalogue-by : (labels : Rec → Rec → Bool) (ds : List Drawing) (s l : ℕ) (es : List Entry) → Type 0
-Catalogue-by labels ds s = List-of labels (Often ds s) (support-in ds)
+abbrev pub support-of : (bytes : List ℕ) → Drawing → ℕ
+support-of bs = support-in (cranes bs) (survey bs)
 
-abbrev pub Catalogue : (ds : List Drawing) (s l : ℕ) (es : List Entry) → Type 0
+abbrev pub Frequent-entry : (labels : Rec → Rec → Bool) (cr : List ℕ) (ds : List Drawing) (s l : ℕ) → Entry → Type 0
+Frequent-entry labels cr ds s = Entry-of labels (Often cr ds s) (support-in cr ds)
+
+abbrev pub Catalogue-by : (labels : Rec → Rec → Bool) (cr : List ℕ) (ds : List Drawing) (s l : ℕ) (es : List Entry) → Type 0
+Catalogue-by labels cr ds s = List-of labels (Often cr ds s) (support-in cr ds)
+
+abbrev pub Catalogue : (cr : List ℕ) (ds : List Drawing) (s l : ℕ) (es : List Entry) → Type 0
 Catalogue = Catalogue-by kinds-before
 
 -- AS BYTES: number of cables, support, the code's records, then zeros up to 8 records
@@ -63,4 +70,4 @@ all-bytes es = concat (map entry-bytes es)
 unfoldable pub Catalogue-there : Type 0
 Catalogue-there =
     (bs : List ℕ) (s l : ℕ) → byte-list bs ≡ true → survey-refusal bs s l .number ≡ 0
-    → (es : List Entry) × Catalogue (survey bs) s l es × ((gs : List Entry) → Catalogue (survey bs) s l gs → gs ≡ es)
+    → (es : List Entry) × Catalogue (cranes bs) (survey bs) s l es × ((gs : List Entry) → Catalogue (cranes bs) (survey bs) s l gs → gs ≡ es)

@@ -5,7 +5,7 @@ use mathlib.Core.Bool.{Bool}
 use mathlib.Core.List.{List, [], map}
 use Prim.Native.Nat.{ℕ, _≤_}
 use Rattle.graphs.specs.Drawing.{Drawing}
-use Rattle.graphs.specs.Survey.{survey}
+use Rattle.graphs.specs.Survey.{survey, cranes}
 use Rattle.codes.specs.Code.{Rec, kinds-before}
 use Rattle.codes.specs.CodeOrder.{Label-order, kinds-order}
 use Rattle.growth.specs.Catalogue.{Entry, Often, support-in, Catalogue-by, Catalogue-there}
@@ -22,26 +22,27 @@ use Rattle.growth.specs.Frequent.{
   frequent-candidate,
 }
 
-module _ (labels : Rec → Rec → Bool) (o : Label-order labels) (ds : List Drawing) (s l : ℕ) where
+module _ (labels : Rec → Rec → Bool) (o : Label-order labels) (cr : List ℕ) (ds : List Drawing) (s l : ℕ) where
   -- ALL FREQUENT LEAST CODES, with their supports, are a catalogue
   pub listed-catalogue :
-      (cs : List (List Rec)) → Listed labels o (Frequent labels ds s) l [] cs → Catalogue-by labels ds s l (map (entry-for (support-in ds)) cs)
-  listed-catalogue = listed-list labels o (Often ds s) (support-in ds) l (often-closed ds s) (support-kept ds)
+      (cs : List (List Rec)) → Listed labels o (Frequent labels cr ds s) l [] cs
+      → Catalogue-by labels cr ds s l (map (entry-for (support-in cr ds)) cs)
+  listed-catalogue = listed-list labels o (Often cr ds s) (support-in cr ds) l (often-closed cr ds s) (support-kept cr ds)
 
   -- THERE IS ONE
-  pub catalogue-exists : 1 ≤ s → (es : List Entry) × Catalogue-by labels ds s l es
+  pub catalogue-exists : 1 ≤ s → (es : List Entry) × Catalogue-by labels cr ds s l es
   catalogue-exists one =
-      list-exists labels o (Often ds s) (support-in ds) l (often-closed ds s) (support-kept ds) (often-decided ds s)
-      (λ γ. survey-candidates labels o ds s)
-      (λ γ e rest f. frequent-candidate labels o ds s one γ e rest f)
+      list-exists labels o (Often cr ds s) (support-in cr ds) l (often-closed cr ds s) (support-kept cr ds) (often-decided cr ds s)
+      (λ γ. survey-candidates labels o cr ds s)
+      (λ γ e rest f. frequent-candidate labels o cr ds s one γ e rest f)
 
   -- AND NO OTHER
-  pub catalogue-unique : (es gs : List Entry) → Catalogue-by labels ds s l es → Catalogue-by labels ds s l gs → es ≡ gs
-  catalogue-unique = list-unique labels o (Often ds s) (support-in ds) l
+  pub catalogue-unique : (es gs : List Entry) → Catalogue-by labels cr ds s l es → Catalogue-by labels cr ds s l gs → es ≡ gs
+  catalogue-unique = list-unique labels o (Often cr ds s) (support-in cr ds) l
 
 -- THE STATEMENT, proved
 pub catalogue-there : Catalogue-there
 unfolding Catalogue-there
 catalogue-there bs s l b h =
-    let t = catalogue-exists kinds-before kinds-order (survey bs) s l (accepted-settings bs s l h .threshold-low) in
-    (t .0, t .1, λ gs g. catalogue-unique kinds-before kinds-order (survey bs) s l gs (t .0) g (t .1))
+    let t = catalogue-exists kinds-before kinds-order (cranes bs) (survey bs) s l (accepted-settings bs s l h .threshold-low) in
+    (t .0, t .1, λ gs g. catalogue-unique kinds-before kinds-order (cranes bs) (survey bs) s l gs (t .0) g (t .1))

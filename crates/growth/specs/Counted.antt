@@ -1,5 +1,5 @@
 -- What a table of sets says after all drawings were walked: the set of a place is the set of drawings that contain the
--- pattern grown by its record, so places with s drawings are the candidates. Rests on Counting and Frequent. Assumes nothing.
+-- pattern grown by its record, so places with s cranes are the candidates. Rests on Counting and Frequent. Assumes nothing.
 use mathlib.Core.Path.{_≡_, sym, ap, _∙_, subst}
 use mathlib.Core.Bool.{Bool, true, false}
 use mathlib.Core.List.{List, [], _∷_}
@@ -11,7 +11,8 @@ use Rattle.laws.specs.Tests.{same-truth}
 use Rattle.laws.specs.Lists.{Mem, snoc, snoc-length, mem-at}
 use Rattle.graphs.specs.Drawing.{Drawing, is-pattern}
 use Rattle.graphs.specs.Map.{image, contains}
-use Rattle.graphs.specs.Survey.{containing, count-true, support}
+use Rattle.graphs.specs.Survey.{containing, crane-count, support}
+use Rattle.graphs.specs.CraneCounts.{crane-count-some}
 use Rattle.graphs.specs.Graph.{Section}
 use Rattle.graphs.specs.Patterns.{pattern-to-test, byte-list-at, byte-list-from}
 use Rattle.codes.specs.Code.{Rec, Reading, fresh, rows-refusal, read-rows, decoded}
@@ -21,7 +22,7 @@ use Rattle.codes.specs.Decoded.{decoded-pattern}
 use Rattle.growth.specs.FamilyLaws.{fits-contained, contained-fits}
 use Rattle.growth.specs.Frequent.{Frequent, some-containing}
 use Rattle.growth.specs.Places.{Ranks, place-of, record-at}
-use Rattle.growth.specs.CellLaws.{some-member, member-below}
+use Rattle.growth.specs.CellLaws.{member-below}
 use Rattle.growth.specs.PlaceLaws.{Placed, place-below, place-record, place-same}
 use Rattle.growth.specs.PlacedRecords.{alone, fits-placed, fits-first-placed}
 use Rattle.growth.specs.CountingExtensions.{
@@ -62,10 +63,10 @@ fits-pattern d p rs one most t =
 
 -- what is frequent fits some drawing
 pub frequent-fits :
-    (labels : Rec → Rec → Bool) (ds : List Drawing) (s : ℕ) → 1 ≤ s → (γ : List Rec) (e : Rec) → Frequent labels ds s (snoc γ e)
+    (labels : Rec → Rec → Bool) (cr : List ℕ) (ds : List Drawing) (s : ℕ) → 1 ≤ s → (γ : List Rec) (e : Rec) → Frequent labels cr ds s (snoc γ e)
     → (d : Drawing) × Mem d ds × Fits d (snoc γ e)
-frequent-fits labels ds s one γ e f =
-    let c = some-containing (decoded (snoc γ e)) ds (omega (arith, f .wanted)) in
+frequent-fits labels cr ds s one γ e f =
+    let c = some-containing (decoded (snoc γ e)) cr ds (omega (arith, f .wanted)) in
     (c .0, c .1, contained-grown γ (c .0) e (good-from-test (snoc γ e) (f .least .code .good) .accepted) (c .2))
 
 -- WHAT IS COUNTED AFTER ROWS γ: records placed by the reading x, all that extend γ of those that fit once
@@ -123,18 +124,21 @@ module _ {ds : List Drawing} {rank labels : List ℕ} {n : ℕ} {γ : List Rec} 
   pub counted-containing : (d : Drawing) → Mem d ds → (e : Rec) → Fit d e → sets (place-of rank n e) ≡ containing (decoded (snoc γ e)) ds
   counted-containing d m e f = counted-exactly e (t .placed d m e f) (t .grown d e f .accepted) (λ g q. t .again g d e f q)
 
-  -- and its number of members the support
-  pub counted-support : (d : Drawing) → Mem d ds → (e : Rec) → Fit d e → count-true (sets (place-of rank n e)) ≡ support (decoded (snoc γ e)) ds
+  -- and its number of cranes the support
+  pub counted-support :
+      (cr : List ℕ) (d : Drawing) → Mem d ds → (e : Rec) → Fit d e
+      → crane-count cr (sets (place-of rank n e)) ≡ support (decoded (snoc γ e)) cr ds
   unfolding support
-  counted-support d m e f = ap count-true (counted-containing d m e f)
+  counted-support cr d m e f = ap (crane-count cr) (counted-containing d m e f)
 
-  -- WHAT IS FREQUENT is a candidate: its place has s drawings
+  -- WHAT IS FREQUENT is a candidate: its place has s cranes
   pub counted-candidate :
-      (s : ℕ) → 1 ≤ s → (before : Rec → Rec → Bool) (e : Rec) → ((d : Drawing) → Fits d (snoc γ e) → Fit d e) → Frequent before ds s (snoc γ e)
-      → s ≤ count-true (sets (place-of rank n e))
-  counted-candidate s one before e into f =
-      let q = frequent-fits before ds s one γ e f in
-      rw (counted-support (q .0) (q .1) e (into (q .0) (q .2))) (f .wanted)
+      (cr : List ℕ) (s : ℕ) → 1 ≤ s → (before : Rec → Rec → Bool) (e : Rec) → ((d : Drawing) → Fits d (snoc γ e) → Fit d e)
+      → Frequent before cr ds s (snoc γ e)
+      → s ≤ crane-count cr (sets (place-of rank n e))
+  counted-candidate cr s one before e into f =
+      let q = frequent-fits before cr ds s one γ e f in
+      rw (counted-support cr (q .0) (q .1) e (into (q .0) (q .2))) (f .wanted)
 
   -- A PLACE WITH A DRAWING is that of the record read off it, and counts the drawings that contain the grown pattern
   pub record Candidate (p : ℕ) : Type 0 where
@@ -145,14 +149,14 @@ module _ {ds : List Drawing} {rank labels : List ℕ} {n : ℕ} {γ : List Rec} 
     pub place-is : place-of rank n (record-at x labels n p) ≡ p
     pub below : p < 16 * n
     pub containing-is : sets p ≡ containing (decoded (snoc γ (record-at x labels n p))) ds
-    pub support-is : count-true (sets p) ≡ support (decoded (snoc γ (record-at x labels n p))) ds
+    pub support-is : (cr : List ℕ) → crane-count cr (sets p) ≡ support (decoded (snoc γ (record-at x labels n p))) cr ds
 
-  pub candidate-at : (p : ℕ) → 1 ≤ count-true (sets p) → Candidate p
+  pub candidate-at : (cr : List ℕ) (p : ℕ) → 1 ≤ crane-count cr (sets p) → Candidate p
   unfolding support
-  candidate-at p one = go (c .sound p (m .0) (m .1))
+  candidate-at cr p one = go (c .sound p (m .0) (m .1))
     where
       m : (i : ℕ) × (getD (sets p) i false ≡ true)
-      m = some-member (sets p) one
+      m = let t = crane-count-some cr (sets p) one in (t .0, t .2)
 
       d : Drawing
       d = drawing-at ds (m .0)
@@ -170,7 +174,7 @@ module _ {ds : List Drawing} {rank labels : List ℕ} {n : ℕ} {γ : List Rec} 
             place-is = ap (place-of rank n) (sym is) ∙ s .place-is;
             below = subst (λ (k : ℕ). k < 16 * n) (s .place-is) (place-below w);
             containing-is = sets-are;
-            support-is = ap count-true sets-are;
+            support-is = λ cr. ap (crane-count cr) sets-are;
           }
         where
           w : Placed x rank labels n (s .e)

@@ -6,13 +6,13 @@ use mathlib.Core.List.{List, [], _∷_, map}
 use Prim.Native.Nat.{ℕ, suc, _+_, _*_, _-_, _≤_, _<_}
 use native.Mathlib.Omega.{arith}
 use lib.ListN.{length, getD, length-map}
-use Rattle.laws.specs.Lists.{Mem, mem-eq}
+use Rattle.laws.specs.Lists.{Mem, mem-eq, place}
 use Rattle.laws.specs.Counting.{Different, different-below}
 use Rattle.laws.specs.Rising.{rises-different}
 use Rattle.laws.specs.Selections.{Sent, map-from}
 use Rattle.graphs.specs.Drawing.{Drawing}
 use Rattle.graphs.specs.Map.{Same, contains}
-use Rattle.graphs.specs.Survey.{containing, count-true, support}
+use Rattle.graphs.specs.Survey.{count-true, support}
 use Rattle.graphs.specs.Embedding.{Embedding}
 use Rattle.graphs.specs.Graph.{Simple, Pattern}
 use Rattle.graphs.specs.Patterns.{pattern-from-test}
@@ -22,6 +22,7 @@ use Rattle.codes.specs.CodeOrder.{kinds-order, before-strict}
 use Rattle.codes.specs.FullCode.{coded-from-test, coded-length}
 use Rattle.codes.specs.CodesTell.{least-codes-tell}
 use Rattle.growth.specs.Catalogue.{Entry, Frequent-entry, Catalogue}
+use Rattle.growth.specs.Frequent.{some-containing}
 use Rattle.graphs.specs.MarkCounts.{
   marks-number,
   few-upto,
@@ -77,22 +78,11 @@ module _ {A : Type 0} (n : ℕ) (R : A → ℕ → Type 0) (xs : List A) (tells 
 
 -- where a pattern with support is contained
 some-contains :
-    (p none : Drawing) (ds : List Drawing) → 1 ≤ count-true (map (contains p) ds) → (j : ℕ) × (j < length ds) × (contains p (getD ds j none) ≡ true)
-unfolding count-true
-some-contains p none [] h = absurd (omega arith)
-some-contains p none (d ∷ ds) h = go (contains p d) refl h (some-contains p none ds)
+    (p none : Drawing) (cr : List ℕ) (ds : List Drawing) → 1 ≤ support p cr ds → (j : ℕ) × (j < length ds) × (contains p (getD ds j none) ≡ true)
+some-contains p none cr ds h = found (some-containing p cr ds h)
   where
-    later :
-        (j : ℕ) × (j < length ds) × (contains p (getD ds j none) ≡ true)
-        → (j : ℕ) × (j < length (d ∷ ds)) × (contains p (getD (d ∷ ds) j none) ≡ true)
-    later (j, l, e) = (suc j, omega arith, e)
-
-    go :
-        (t : Bool) → contains p d ≡ t → 1 ≤ cond t 1 0 + count-true (map (contains p) ds)
-        → (1 ≤ count-true (map (contains p) ds) → (j : ℕ) × (j < length ds) × (contains p (getD ds j none) ≡ true))
-        → (j : ℕ) × (j < length (d ∷ ds)) × (contains p (getD (d ∷ ds) j none) ≡ true)
-    go true e g ih = (0, omega arith, e)
-    go false e g ih = later (ih (omega arith))
+    found : (d : Drawing) × Mem d ds × (contains p d ≡ true) → (j : ℕ) × (j < length ds) × (contains p (getD ds j none) ≡ true)
+    found (d, m, e) = let t = place none m in (t .i, t .below, rw (t .is) e)
 
 -- A SURVEY: at most 32 simple drawings of at most 20 cables
 pub record Sized-survey (none : Drawing) (ds : List Drawing) : Type 0 where
@@ -172,9 +162,10 @@ module _ (none : Drawing) (ds : List Drawing) (sized : Sized-survey none ds) whe
           (most (a .pattern) (a .few) (b .below) moved) (most (b .pattern) (b .few) (b .below) (b .embeds)) same-number)
 
   -- EVERY FREQUENT ENTRY has one
-  has-number : (s l : ℕ) → 1 ≤ s → l ≤ 8 → (e : Entry) → Frequent-entry kinds-before ds s l e → (k : ℕ) × (k < 8446368) × Code-number (e .code) k
-  unfolding support containing
-  has-number s l one small e t = go (some-contains p none ds (omega (arith, t .support-is, t .wanted)))
+  has-number :
+      (cr : List ℕ) (s l : ℕ) → 1 ≤ s → l ≤ 8 → (e : Entry) → Frequent-entry kinds-before cr ds s l e
+      → (k : ℕ) × (k < 8446368) × Code-number (e .code) k
+  has-number cr s l one small e t = go (some-contains p none cr ds (omega (arith, t .support-is, t .wanted)))
     where
       p : Drawing
       p = t .pattern
@@ -208,9 +199,9 @@ module _ (none : Drawing) (ds : List Drawing) (sized : Sized-survey none ds) whe
 
 -- THE BOUND: 32 times 263,949
 pub entries-most :
-    (none : Drawing) (ds : List Drawing) → Sized-survey none ds → (s l : ℕ) → 1 ≤ s → l ≤ 8 → (es : List Entry) → Catalogue ds s l es
+    (none : Drawing) (ds : List Drawing) → Sized-survey none ds → (cr : List ℕ) (s l : ℕ) → 1 ≤ s → l ≤ 8 → (es : List Entry) → Catalogue cr ds s l es
     → length es ≤ 8446368
-entries-most none ds sized s l one small es c =
+entries-most none ds sized cr s l one small es c =
     omega (
       arith,
       length-map es code-at,
@@ -228,4 +219,4 @@ entries-most none ds sized s l one small es c =
     numbered : (rs : List Rec) → Sent code-at es rs → (k : ℕ) × (k < 8446368) × Code-number none ds sized rs k
     numbered rs t =
         subst (λ (qs : List Rec). (k : ℕ) × (k < 8446368) × Code-number none ds sized qs k) (t .is)
-        (has-number none ds sized s l one small (t .a) (c .sound (t .a) (t .member)))
+        (has-number none ds sized cr s l one small (t .a) (c .sound (t .a) (t .member)))

@@ -27,19 +27,19 @@ use Rattle.growth.specs.Counted.{Counted-firsts, first-extending, freque
 use Rattle.growth.specs.ListedBy.{Chosen-places, records-at, chosen-candidate, chosen-rise, chosen-all}
 
 -- ALL FIRST RECORDS THAT MATTER, with device 0 of a kind below k
-pub record Firsts (ds : List Drawing) (s k : ℕ) (es : List Rec) : Type 0 where
+pub record Firsts (cr : List ℕ) (ds : List Drawing) (s k : ℕ) (es : List Rec) : Type 0 where
   pub ends : (e : Rec) → Mem e es → (e .i ≡ 0) × (e .j ≡ 1)
   pub below : (e : Rec) → Mem e es → e .ki < k
   pub rise : Rises (rec-before-by kinds-before) es
-  pub all : (e : Rec) (more : List Rec) → e .ki < k → Frequent kinds-before ds s (e ∷ more) → Mem e es
+  pub all : (e : Rec) (more : List Rec) → e .ki < k → Frequent kinds-before cr ds s (e ∷ more) → Mem e es
 
 -- of two first records the one with the smaller kind of device 0 comes first
 pub first-before : (e g : Rec) → (e .i ≡ 0) × (e .j ≡ 1) → (g .i ≡ 0) × (g .j ≡ 1) → e .ki < g .ki → rec-before-by kinds-before e g ≡ true
 first-before e g p q h =
     same-forward-first kinds-before e g (omega (arith, p .0, p .1)) (p .0 ∙ sym (q .0)) (p .1 ∙ sym (q .1)) (smaller-kind-first e g h)
 
-pub firsts-none : (ds : List Drawing) (s : ℕ) → Firsts ds s 0 []
-firsts-none ds s =
+pub firsts-none : (cr : List ℕ) (ds : List Drawing) (s : ℕ) → Firsts cr ds s 0 []
+firsts-none cr ds s =
     record {
       ends = λ e m. elim m [ ];
       below = λ e m. elim m [ ];
@@ -47,15 +47,15 @@ firsts-none ds s =
       all = λ e more h. absurd (not-suc-le-zero h);
     }
 
-module _ {ds : List Drawing} {s k : ℕ} {es : List Rec} (one : 1 ≤ s) (t : Firsts ds s k es) where
-  first-fits : (e : Rec) (more : List Rec) → Frequent kinds-before ds s (e ∷ more) → (d : Drawing) × Mem d ds × Fits d (e ∷ [])
-  first-fits e more f = frequent-fits kinds-before ds s one [] e (frequent-prefix kinds-before kinds-order ds s [] e more f)
+module _ {cr : List ℕ} {ds : List Drawing} {s k : ℕ} {es : List Rec} (one : 1 ≤ s) (t : Firsts cr ds s k es) where
+  first-fits : (e : Rec) (more : List Rec) → Frequent kinds-before cr ds s (e ∷ more) → (d : Drawing) × Mem d ds × Fits d (e ∷ [])
+  first-fits e more f = frequent-fits kinds-before cr ds s one [] e (frequent-prefix kinds-before kinds-order cr ds s [] e more f)
 
   -- a kind that no first record has is passed over
-  pub firsts-skip : ((d : Drawing) (e : Rec) → Mem d ds → First-of k d e → ⊥) → Firsts ds s (suc k) es
+  pub firsts-skip : ((d : Drawing) (e : Rec) → Mem d ds → First-of k d e → ⊥) → Firsts cr ds s (suc k) es
   firsts-skip none = record { ends = t .ends; below = λ e m. omega (arith, t .below e m); rise = t .rise; all = all }
     where
-      all : (e : Rec) (more : List Rec) → e .ki < suc k → Frequent kinds-before ds s (e ∷ more) → Mem e es
+      all : (e : Rec) (more : List Rec) → e .ki < suc k → Frequent kinds-before cr ds s (e ∷ more) → Mem e es
       all e more h f = go (decLt (e .ki) k)
         where
           go : Dec (e .ki < k) → Mem e es
@@ -64,7 +64,7 @@ module _ {ds : List Drawing} {s k : ℕ} {es : List Rec} (one : 1 ≤ s) (t : Fi
 
   -- THE CANDIDATES OF ONE KIND MORE
   module _ {rank labels : List ℕ} {n : ℕ} {sets : ℕ → List Bool} {ps : List ℕ} (sections : All-sections ds) (o : Ranks ds rank labels n)
-      (c : Counted-firsts ds k rank n sets) (h : Chosen-places sets s n ps) where
+      (c : Counted-firsts ds k rank n sets) (h : Chosen-places cr sets s n ps) where
     -- each fits some drawing
     chosen-first : (e : Rec) → Mem e (records-at (alone k) labels n ps) → (e .i ≡ 0) × (e .j ≡ 1) × (e .ki ≡ k)
     chosen-first e m = go (map-from (record-at (alone k) labels n) ps m)
@@ -82,7 +82,7 @@ module _ {ds : List Drawing} {s k : ℕ} {es : List Rec} (one : 1 ≤ s) (t : Fi
         let z = chosen-first g w in
         first-before e g (t .ends e m) (z .0, z .1) (omega (arith, t .below e m, z .2))
 
-    pub firsts-next : Firsts ds s (suc k) (es ++ records-at (alone k) labels n ps)
+    pub firsts-next : Firsts cr ds s (suc k) (es ++ records-at (alone k) labels n ps)
     firsts-next = record { ends = λ e m. ends e (mem-cases es m); below = λ e m. below e (mem-cases es m); rise = rise; all = all }
       where
         ends : (e : Rec) → Mem e es ⊎ Mem e (records-at (alone k) labels n ps) → (e .i ≡ 0) × (e .j ≡ 1)
@@ -98,7 +98,7 @@ module _ {ds : List Drawing} {s k : ℕ} {es : List Rec} (one : 1 ≤ s) (t : Fi
             rises-append (rec-before-by kinds-before) es (records-at (alone k) labels n ps) (t .rise)
             (chosen-rise o (first-extending sections o k) c one h) firsts-apart
 
-        all : (e : Rec) (more : List Rec) → e .ki < suc k → Frequent kinds-before ds s (e ∷ more) → Mem e (es ++ records-at (alone k) labels n ps)
+        all : (e : Rec) (more : List Rec) → e .ki < suc k → Frequent kinds-before cr ds s (e ∷ more) → Mem e (es ++ records-at (alone k) labels n ps)
         all e more l f = go (decLt (e .ki) k)
           where
             go : Dec (e .ki < k) → Mem e (es ++ records-at (alone k) labels n ps)
@@ -110,11 +110,11 @@ module _ {ds : List Drawing} {s k : ℕ} {es : List Rec} (one : 1 ≤ s) (t : Fi
   -- WITH ALL KINDS, what goes on by them is all that is frequent
   pub firsts-listed :
       All-sections ds → 256 ≤ k → (l : ℕ) (cs : List (List Rec))
-      → Listed-by kinds-before kinds-order (Frequent kinds-before ds s) l [] es cs
-      → Listed kinds-before kinds-order (Frequent kinds-before ds s) l [] cs
+      → Listed-by kinds-before kinds-order (Frequent kinds-before cr ds s) l [] es cs
+      → Listed kinds-before kinds-order (Frequent kinds-before cr ds s) l [] cs
   unfolding first-record
   firsts-listed sections high l cs =
-      listed-all kinds-before kinds-order (Frequent kinds-before ds s) l [] es cs (λ e more f. t .all e more (byte e (first-fits e more f)) f)
+      listed-all kinds-before kinds-order (Frequent kinds-before cr ds s) l [] es cs (λ e more f. t .all e more (byte e (first-fits e more f)) f)
     where
       byte : (e : Rec) → (d : Drawing) × Mem d ds × Fits d (e ∷ []) → e .ki < k
       byte e (d, m, w) =

@@ -3,18 +3,20 @@ pub mod Catalogue
 pub mod Family
 pub mod Sizes
 pub mod Places
+pub mod Sheets
 pub mod Cells
 pub mod Mined
 pub mod Entries
 -- Laws over them.
-pub mod EntryCount
 pub mod Settings
-pub mod SurveySizes
 pub mod Growth
 pub mod FamilyLaws
 pub mod FamilyLists
 pub mod Frequent
+pub mod EntryCount
+pub mod SurveySizes
 pub mod Catalogues
+pub mod FigureLists
 pub mod Marks
 pub mod Output
 pub mod Listings
@@ -31,3 +33,5 @@ pub mod Walking
 pub mod MinedLaws
 pub mod EntryLaws
 pub mod ListingLaws
+pub mod SheetLaws
+pub mod SheetNotes

@@ -1,4 +1,4 @@
--- Candidates in the order of a walk: the records at the places with s drawings, rising by place, rise as records and hold
+-- Candidates in the order of a walk: the records at the places with s cranes, rising by place, rise as records and hold
 -- every next record of what is frequent; lists of what goes on by them join. Rests on Counted and Growth. Assumes nothing.
 use mathlib.Core.Path.{_≡_, refl, sym, ap, _∙_, subst}
 use mathlib.Core.Bool.{Bool, true}
@@ -14,7 +14,7 @@ use Rattle.laws.specs.Lists.{Mem, snoc, mem-eq, mem-map, mem-front, mem-back, m
 use Rattle.laws.specs.Selections.{Sent, map-from, mem-one}
 use Rattle.laws.specs.Rising.{Rises, rises-nil, rises-cons, rises-append, rises-tail, rises-head}
 use Rattle.graphs.specs.Drawing.{Drawing}
-use Rattle.graphs.specs.Survey.{count-true}
+use Rattle.graphs.specs.Survey.{crane-count}
 use Rattle.codes.specs.Code.{Rec, Reading, fresh, read-rows, kinds-before, rec-before-by, before-by}
 use Rattle.codes.specs.CodeOrder.{Label-order, kinds-order, difference-decides}
 use Rattle.codes.specs.Greedy.{Fits}
@@ -28,8 +28,8 @@ use Rattle.growth.specs.Growth.{
   listed-take,
 }
 use Rattle.growth.specs.Frequent.{Frequent, frequent-prefix}
-use Rattle.growth.specs.Places.{Ranks, place-of, record-at, cell-number, candidate-of}
-use Rattle.growth.specs.CellLaws.{cell-number-below, candidate-place, candidate-rises}
+use Rattle.growth.specs.Places.{Ranks, place-of, record-at, crane-cell, candidate-of}
+use Rattle.growth.specs.CellLaws.{crane-cell-below, candidate-place, candidate-rises}
 use Rattle.growth.specs.PlaceLaws.{place-below, place-record, place-order}
 use Rattle.growth.specs.CountingExtensions.{All-sections, Counting}
 use Rattle.growth.specs.Floors.{Above, Grown-above}
@@ -56,55 +56,55 @@ rises-map {A} {B} f lt before (x ∷ xs) h r =
         subst (λ (z : B). before (f x) z ≡ true) (s .is)
         (h x (s .a) (Mem.here refl) (Mem.there (s .member)) (rises-head lt x xs r (s .a) (s .member)))
 
--- THE PLACES WITH s DRAWINGS, rising
-pub record Chosen-places (sets : ℕ → List Bool) (s n : ℕ) (ps : List ℕ) : Type 0 where
+-- THE PLACES WITH s CRANES, rising
+pub record Chosen-places (cr : List ℕ) (sets : ℕ → List Bool) (s n : ℕ) (ps : List ℕ) : Type 0 where
   pub rise : Rises ltb ps
-  pub often : (p : ℕ) → Mem p ps → s ≤ count-true (sets p)
-  pub all : (p : ℕ) → p < 16 * n → s ≤ count-true (sets p) → Mem p ps
+  pub often : (p : ℕ) → Mem p ps → s ≤ crane-count cr (sets p)
+  pub all : (p : ℕ) → p < 16 * n → s ≤ crane-count cr (sets p) → Mem p ps
 
 -- the same as candidates: each place with its cell below it
-pub record Chosen-cells (sets : ℕ → List Bool) (s n : ℕ) (qs : List ℕ) : Type 0 where
+pub record Chosen-cells (cr : List ℕ) (sets : ℕ → List Bool) (s n : ℕ) (qs : List ℕ) : Type 0 where
   pub rise : Rises ltb qs
-  pub often : (q : ℕ) → Mem q qs → (p : ℕ) × (candidate-of p (cell-number (sets p)) ≡ q) × (s ≤ count-true (sets p))
-  pub all : (p : ℕ) → p < 16 * n → s ≤ count-true (sets p) → Mem (candidate-of p (cell-number (sets p))) qs
+  pub often : (q : ℕ) → Mem q qs → (p : ℕ) × (candidate-of p (crane-cell cr (sets p)) ≡ q) × (s ≤ crane-count cr (sets p))
+  pub all : (p : ℕ) → p < 16 * n → s ≤ crane-count cr (sets p) → Mem (candidate-of p (crane-cell cr (sets p))) qs
 
 abbrev pub place-in : ℕ → ℕ
 place-in q = q / (2 ^ 40)
 
 pub chosen-places :
-    (sets : ℕ → List Bool) (s n : ℕ) (qs : List ℕ) → ((p : ℕ) → length (sets p) ≤ 32) → Chosen-cells sets s n qs → Chosen-places sets s n
-    (map place-in qs)
-chosen-places sets s n qs few c = record { rise = rises-map place-in ltb ltb qs order (c .rise); often = often; all = all }
+    (cr : List ℕ) (sets : ℕ → List Bool) (s n : ℕ) (qs : List ℕ) → ((p : ℕ) → length (sets p) ≤ 32) → Chosen-cells cr sets s n qs
+    → Chosen-places cr sets s n (map place-in qs)
+chosen-places cr sets s n qs few c = record { rise = rises-map place-in ltb ltb qs order (c .rise); often = often; all = all }
   where
-    is : (p : ℕ) → place-in (candidate-of p (cell-number (sets p))) ≡ p
-    is p = candidate-place p (cell-number (sets p)) (cell-number-below (sets p) (few p))
+    is : (p : ℕ) → place-in (candidate-of p (crane-cell cr (sets p))) ≡ p
+    is p = candidate-place p (crane-cell cr (sets p)) (crane-cell-below cr (sets p) (few p))
 
     order : (a b : ℕ) → Mem a qs → Mem b qs → ltb a b ≡ true → ltb (place-in a) (place-in b) ≡ true
     order a b m k h = go (c .often a m) (c .often b k)
       where
         go :
-            (p : ℕ) × (candidate-of p (cell-number (sets p)) ≡ a) × (s ≤ count-true (sets p))
-            → (p : ℕ) × (candidate-of p (cell-number (sets p)) ≡ b) × (s ≤ count-true (sets p)) → ltb (place-in a) (place-in b) ≡ true
+            (p : ℕ) × (candidate-of p (crane-cell cr (sets p)) ≡ a) × (s ≤ crane-count cr (sets p))
+            → (p : ℕ) × (candidate-of p (crane-cell cr (sets p)) ≡ b) × (s ≤ crane-count cr (sets p)) → ltb (place-in a) (place-in b) ≡ true
         go (p, x, u) (q, y, v) = lt-ltb (place-in a) (place-in b) (rw (← x, ← y, is p, is q) (less (decLt p q) (decLt q p)))
           where
             less : Dec (p < q) → Dec (q < p) → p < q
             less (yes l) z = l
             less (no l) (yes z) =
-                let w = candidate-rises q p (cell-number (sets q)) (cell-number (sets p)) (cell-number-below (sets q) (few q)) z in
+                let w = candidate-rises q p (crane-cell cr (sets q)) (crane-cell cr (sets p)) (crane-cell-below cr (sets q) (few q)) z in
                 absurd (omega (arith, ltb-true a b h, w))
             less (no l) (no z) =
                 let w : p ≡ q = omega arith in
-                absurd (omega (arith, ltb-true a b h, sym x ∙ ap (λ (k : ℕ). candidate-of k (cell-number (sets k))) w ∙ y))
+                absurd (omega (arith, ltb-true a b h, sym x ∙ ap (λ (k : ℕ). candidate-of k (crane-cell cr (sets k))) w ∙ y))
 
-    often : (p : ℕ) → Mem p (map place-in qs) → s ≤ count-true (sets p)
+    often : (p : ℕ) → Mem p (map place-in qs) → s ≤ crane-count cr (sets p)
     often p m = go (map-from place-in qs m)
       where
-        go : Sent place-in qs p → s ≤ count-true (sets p)
+        go : Sent place-in qs p → s ≤ crane-count cr (sets p)
         go t =
             let w = c .often (t .a) (t .member) in
-            subst (λ (k : ℕ). s ≤ count-true (sets k)) (sym (is (w .0)) ∙ ap place-in (w .1) ∙ t .is) (w .2)
+            subst (λ (k : ℕ). s ≤ crane-count cr (sets k)) (sym (is (w .0)) ∙ ap place-in (w .1) ∙ t .is) (w .2)
 
-    all : (p : ℕ) → p < 16 * n → s ≤ count-true (sets p) → Mem p (map place-in qs)
+    all : (p : ℕ) → p < 16 * n → s ≤ crane-count cr (sets p) → Mem p (map place-in qs)
     all p h k = mem-eq (is p) (mem-map place-in (c .all p h k))
 
 -- THE RECORDS AT CHOSEN PLACES
@@ -112,10 +112,10 @@ abbrev pub records-at : Reading → (labels : List ℕ) (n : ℕ) → (places : 
 records-at x labels n ps = map (record-at x labels n) ps
 
 module _ {ds : List Drawing} {rank labels : List ℕ} {n : ℕ} {γ : List Rec} {x : Reading} {Fit : Drawing → Rec → Type 0} {sets : ℕ → List Bool}
-    {s : ℕ} {ps : List ℕ} (o : Ranks ds rank labels n) (t : Extending ds rank labels n γ x Fit)
-    (c : Counting (place-of rank n) Fit ds (length ds) sets) (one : 1 ≤ s) (h : Chosen-places sets s n ps) where
+    {cr : List ℕ} {s : ℕ} {ps : List ℕ} (o : Ranks ds rank labels n) (t : Extending ds rank labels n γ x Fit)
+    (c : Counting (place-of rank n) Fit ds (length ds) sets) (one : 1 ≤ s) (h : Chosen-places cr sets s n ps) where
   pub chosen-candidate : (p : ℕ) → Mem p ps → Candidate t c p
-  chosen-candidate p m = candidate-at t c p (omega (arith, h .often p m))
+  chosen-candidate p m = candidate-at t c cr p (omega (arith, h .often p m))
 
   -- rise as records
   pub chosen-rise : Rises (rec-before-by kinds-before) (records-at x labels n ps)
@@ -132,30 +132,30 @@ module _ {ds : List Drawing} {rank labels : List ℕ} {n : ℕ} {γ : List Rec} 
 
   -- and hold every next record of what is frequent
   pub chosen-all :
-      (e : Rec) (more : List Rec) → ((d : Drawing) → Fits d (snoc γ e) → Fit d e) → Frequent kinds-before ds s (γ ++ e ∷ more)
+      (e : Rec) (more : List Rec) → ((d : Drawing) → Fits d (snoc γ e) → Fit d e) → Frequent kinds-before cr ds s (γ ++ e ∷ more)
       → Mem e (records-at x labels n ps)
   chosen-all e more into f =
-      let g = frequent-prefix kinds-before kinds-order ds s γ e more f in
-      let q = frequent-fits kinds-before ds s one γ e g in
+      let g = frequent-prefix kinds-before kinds-order cr ds s γ e more f in
+      let q = frequent-fits kinds-before cr ds s one γ e g in
       let w = t .placed (q .0) (q .1) e (into (q .0) (q .2)) in
       mem-eq (place-record w)
       (mem-map (record-at x labels n)
-      (h .all (place-of rank n e) (place-below w) (counted-candidate t c s one kinds-before e into g)))
+      (h .all (place-of rank n e) (place-below w) (counted-candidate t c cr s one kinds-before e into g)))
 
 -- AFTER ROWS: what goes on by the records at chosen places is all that goes on, if what is frequent is above the floors
-module _ {ds : List Drawing} {rank labels : List ℕ} {n : ℕ} {sets : ℕ → List Bool} {s : ℕ} {ps : List ℕ} (sections : All-sections ds)
+module _ {ds : List Drawing} {rank labels : List ℕ} {n : ℕ} {sets : ℕ → List Bool} {cr : List ℕ} {s : ℕ} {ps : List ℕ} (sections : All-sections ds)
     (o : Ranks ds rank labels n) (r : Rec) (rs : List Rec) (few : length (r ∷ rs) ≤ 7) (floors : List ℕ)
     (c : Counting (place-of rank n) (Grown-above (r ∷ rs) floors) ds (length ds) sets)
-    (above : (e : Rec) → Frequent kinds-before ds s (snoc (r ∷ rs) e) → Above floors e) (one : 1 ≤ s) (h : Chosen-places sets s n ps) where
+    (above : (e : Rec) → Frequent kinds-before cr ds s (snoc (r ∷ rs) e) → Above floors e) (one : 1 ≤ s) (h : Chosen-places cr sets s n ps) where
   pub chosen-listed :
       (l : ℕ) (cs : List (List Rec))
-      → Listed-by kinds-before kinds-order (Frequent kinds-before ds s) l (r ∷ rs) (records-at (read-rows fresh (r ∷ rs)) labels n ps) cs
-      → Listed kinds-before kinds-order (Frequent kinds-before ds s) l (r ∷ rs) cs
+      → Listed-by kinds-before kinds-order (Frequent kinds-before cr ds s) l (r ∷ rs) (records-at (read-rows fresh (r ∷ rs)) labels n ps) cs
+      → Listed kinds-before kinds-order (Frequent kinds-before cr ds s) l (r ∷ rs) cs
   chosen-listed l cs =
-      listed-all kinds-before kinds-order (Frequent kinds-before ds s) l (r ∷ rs) (records-at (read-rows fresh (r ∷ rs)) labels n ps) cs
+      listed-all kinds-before kinds-order (Frequent kinds-before cr ds s) l (r ∷ rs) (records-at (read-rows fresh (r ∷ rs)) labels n ps) cs
       (λ e more f.
       chosen-all o (rows-extending sections o r rs few floors) c one h e more
-      (λ d t. (t, above e (frequent-prefix kinds-before kinds-order ds s (r ∷ rs) e more f))) f)
+      (λ d t. (t, above e (frequent-prefix kinds-before kinds-order cr ds s (r ∷ rs) e more f))) f)
 
 -- LISTS JOIN: what goes on by earlier next records, then by later ones
 module _ (labels : Rec → Rec → Bool) (o : Label-order labels) (good : List Rec → Type 0) (l : ℕ) where

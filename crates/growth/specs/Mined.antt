@@ -25,10 +25,10 @@ next-records (r ∷ rs) d =
     each (x .path) λ p.
     edge-record d x p (c .kind) (c .b) ∷ chord-record x (end (x .path)) p (c .kind) ∷ []
 
-module _ (labels : Rec → Rec → Bool) (ds : List Drawing) (s : ℕ) where
-  -- rows are the least code of a pattern that at least s drawings contain
+module _ (labels : Rec → Rec → Bool) (cr : List ℕ) (ds : List Drawing) (s : ℕ) where
+  -- rows are the least code of a pattern that drawings of at least s cranes contain
   unfoldable pub is-frequent : List Rec → Bool
-  is-frequent rs = rows-good rs && (is-pattern (decoded rs) && (is-least labels rs && leb s (support (decoded rs) ds)))
+  is-frequent rs = rows-good rs && (is-pattern (decoded rs) && (is-least labels rs && leb s (support (decoded rs) cr ds)))
 
   -- what goes on from some rows by at most so many records
   unfoldable pub mined : (left : ℕ) → (rows : List Rec) → List (List Rec)
@@ -39,4 +39,4 @@ module _ (labels : Rec → Rec → Bool) (ds : List Drawing) (s : ℕ) where
 
   -- THE CATALOGUE: each with its support
   unfoldable pub mined-entries : (l : ℕ) → List Entry
-  mined-entries l = map (λ rs. entry (support (decoded rs) ds) rs) (mined l [])
+  mined-entries l = map (λ rs. entry (support (decoded rs) cr ds) rs) (mined l [])

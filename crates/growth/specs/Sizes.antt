@@ -3,9 +3,9 @@
 use Prim.Native.Nat.{ℕ, _+_, _*_}
 
 -- `TABLES`: 32 drawings, each with a label for every two of 10 devices, a slot for each neighbour, the end of each slot's group and the bit
--- of each label: 12,800
+-- of each label, and behind them the sheets of one crane: 12,900
 abbrev pub tables-size : ℕ
-tables-size = 4 * 32 * 100
+tables-size = (4 * 32 + 1) * 100
 
 -- `LABELS`: 0, which is none, and the labels 1 + 256 * cable kind + kind, so 1 to 65,536: 65,537
 abbrev pub labels-size : ℕ

@@ -11,8 +11,8 @@ use Rattle.laws.specs.Tests.{and-split}
 use Rattle.laws.specs.Rows.{rows-length}
 use Rattle.graphs.specs.Drawing.{Drawing, drawing-refusal}
 use Rattle.graphs.specs.Survey as surveys
-use Rattle.graphs.specs.Survey.{survey, records-in, drawings-refusal, length-refusal, bytes-refusal, survey-refusal}
-use Rattle.growth.specs.Catalogue.{Entry, Often, support-in}
+use Rattle.graphs.specs.Survey.{survey, cranes, records-in, drawings-refusal, length-refusal, bytes-refusal, survey-refusal}
+use Rattle.growth.specs.Catalogue.{Entry, Often-in, support-of}
 use Rattle.books.specs.Book.{Small, unsupported, book-refusal}
 use Rattle.records.specs.declared.catalogued.Catalogued.{Catalogued}
 use Rattle.records.specs.Catalogued.{catalogued-refusal}
@@ -33,14 +33,14 @@ module _ (most : ℕ) (some : 0 < most) where
       either-drawing (eqb (drawing-refusal r) 0) _ _ (faulty-drawing (suc d) rs (omega arith)) (omega arith)
 
 -- a survey whose length is accepted has at most 32 drawings
-most-drawings : (bs : List ℕ) → length-refusal bs ≡ 0 → length bs / 72 ≤ 32
+most-drawings : (bs : List ℕ) → length-refusal bs ≡ 0 → length bs / 73 ≤ 32
 unfolding length-refusal
-most-drawings bs e = go (eqb (length bs % 72) 0) (leb 1 (length bs / 72) && leb (length bs / 72) 32) refl e
+most-drawings bs e = go (eqb (length bs % 73) 0) (leb 1 (length bs / 73) && leb (length bs / 73) 32) refl e
   where
     go :
-        (a b : Bool) → (leb 1 (length bs / 72) && leb (length bs / 72) 32) ≡ b → cond {A = ℕ} (not a) 1 (cond (not b) 14 0) ≡ 0
-        → length bs / 72 ≤ 32
-    go true true p e = leb-true (length bs / 72) 32 (and-split (leb 1 (length bs / 72)) (leb (length bs / 72) 32) p .1)
+        (a b : Bool) → (leb 1 (length bs / 73) && leb (length bs / 73) 32) ≡ b → cond {A = ℕ} (not a) 1 (cond (not b) 14 0) ≡ 0
+        → length bs / 73 ≤ 32
+    go true true p e = leb-true (length bs / 73) 32 (and-split (leb 1 (length bs / 73)) (leb (length bs / 73) 32) p .1)
     go true false p e = absurd (omega arith)
     go false b p e = absurd (omega arith)
 
@@ -54,7 +54,7 @@ bytes-drawing bs = go (eqb (length-refusal bs) 0) refl
     go true e =
         unfold records-in in
         faulty-drawing 32 (lit< tt) 0 _
-        (omega (arith, rows-length 72 (length bs / 72) bs, most-drawings bs (eqb-true (length-refusal bs) 0 e)))
+        (omega (arith, rows-length 73 (length bs / 73) bs, most-drawings bs (eqb-true (length-refusal bs) 0 e)))
     go false e = lit< tt
 
 survey-drawing : (bs : List ℕ) (s l : ℕ) → survey-refusal bs s l .drawing < 32
@@ -79,7 +79,7 @@ list-drawing f Wanted figure l r o z low says = go (f .number) says
 
 pub says-drawing : (bs : List ℕ) (s l : ℕ) (r : Catalogued) (o z : List ℕ) → Catalogue-says bs s l r o z → catalogued-refusal r .drawing < 32
 says-drawing bs s l r o z =
-    list-drawing (survey-refusal bs s l) (Often (survey bs) s) (support-in (survey bs)) l r o z (survey-drawing bs s l)
+    list-drawing (survey-refusal bs s l) (Often-in bs s) (support-of bs) l r o z (survey-drawing bs s l)
 
 pub book-drawing : (a b l : ℕ) (r : Catalogued) (o z : List ℕ) → Book-says a b l r o z → catalogued-refusal r .drawing < 32
 unfolding surveys.refusal

@@ -20,7 +20,7 @@ fn catalogued_number(answer: Catalogued) -> u64
     }
 }
 
-// The catalogue of a survey: the patterns of at most `limit` cables that at least `threshold` drawings contain. The count is
+// The catalogue of a survey: the patterns of at most `limit` cables that drawings of at least `threshold` cranes contain. The count is
 // the number of entries written.
 #[no_mangle]
 pub extern "C" fn holvreiz_catalogue(

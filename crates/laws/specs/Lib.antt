@@ -14,5 +14,6 @@ pub mod Rising
 pub mod Selections
 pub mod Decides
 pub mod Masks
+pub mod LowestBits
 pub mod PutRecordLaws
 pub mod PartLaws

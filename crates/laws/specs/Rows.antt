@@ -1,4 +1,4 @@
--- Records of any size: a list cut into records of w elements, read back, put together. The drawing's 72 bytes, the
+-- Records of any size: a list cut into records of w elements, read back, put together. The drawing's 73 bytes, the
 -- entry's 42, the code record's 5 and the cable's 3 are instances. Assumes nothing.
 use mathlib.Core.Path.{_≡_, refl, sym, ap, ap₂, _∙_}
 use mathlib.Core.List.{List, [], _∷_, _++_, append-assoc, append-nil}

@@ -1,11 +1,11 @@
 -- What writing a catalogue answers, and what it leaves in the lent bytes. Assumes nothing: these are definitions.
 use mathlib.Core.List.{List}
 use Prim.Native.Nat.{ℕ}
-use Rattle.graphs.specs.Survey.{survey, survey-refusal}
-use Rattle.growth.specs.Catalogue.{Often, support-in}
+use Rattle.graphs.specs.Survey.{survey, cranes, survey-refusal}
+use Rattle.growth.specs.Catalogue.{Often-in, support-of}
 use Rattle.entries.specs.Written.{List-says}
 use Rattle.records.specs.declared.catalogued.Catalogued.{Catalogued}
 
 -- THE OUTCOME: 12, 13, 1, 14, 2 to 8 with the drawing; 15; or the catalogue
 abbrev pub Catalogue-says : (bytes : List ℕ) (s l : ℕ) → Catalogued → (out out-now : List ℕ) → Type 0
-Catalogue-says bs s l = List-says (survey-refusal bs s l) (Often (survey bs) s) (support-in (survey bs)) l
+Catalogue-says bs s l = List-says (survey-refusal bs s l) (Often-in bs s) (support-of bs) l

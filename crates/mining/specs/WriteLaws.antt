@@ -8,14 +8,16 @@ use native.Mathlib.Omega.{arith}
 use lib.Dec.{leb}
 use lib.ListN.{length, replicate}
 use borrow.Author.Tests.{le-leb, lt-leb}
+use Rattle.graphs.specs.AcceptedSurvey.{accepted-survey}
 use Rattle.graphs.specs.Survey as surveys
-use Rattle.graphs.specs.Survey.{survey, survey-refusal, bytes-refusal, refusal}
+use Rattle.graphs.specs.Survey.{survey, cranes, survey-refusal, bytes-refusal, refusal}
 use Rattle.codes.specs.Code.{kinds-before}
 use Rattle.codes.specs.CodeOrder.{kinds-order}
-use Rattle.growth.specs.Catalogue.{Often, support-in}
+use Rattle.growth.specs.Catalogue.{Often-in, support-of}
 use Rattle.growth.specs.Frequent.{often-closed, support-kept}
 use Rattle.growth.specs.Catalogues.{catalogue-exists}
 use Rattle.growth.specs.Places.{Ranks}
+use Rattle.growth.specs.Sheets.{Sheets-noted}
 use Rattle.records.specs.declared.refusal.Refusal.{Refusal}
 use Rattle.records.specs.declared.survey.SurveyChecked.{SurveyChecked}
 use Rattle.records.specs.declared.survey.SurveyChecked.the-variants as checked
@@ -27,9 +29,11 @@ use Rattle.records.specs.declared.catalogued.Catalogued.the-variants.{Entries, 
 use Rattle.entries.specs.declared.output.Growth.the-variants.{To, Full}
 use Rattle.records.specs.Catalogued.{catalogued-refusal}
 use Rattle.mining.specs.CatalogueSays.{Catalogue-says}
-use Rattle.walks.specs.LabelMarks.{drawings-of}
+use Rattle.walks.specs.LabelMarks.{drawings-of, cranes-of}
 use Rattle.walks.specs.DrawingTables.{Tables}
 use Rattle.walks.specs.LabelBits.{Bits-noted}
+use Rattle.walks.specs.SheetTables.{sheets-of, Beside-sheets}
+use Rattle.walks.specs.SheetTableLaws.{tables-beside, bits-beside, sheets-counted}
 use Rattle.entries.specs.Written.{List-written}
 use Rattle.entries.specs.WrittenLaws.{list-written, list-too-long, says-refused, says-list}
 use Rattle.survey_patterns.specs.SurveyMined.{Can-mine, Mined}
@@ -44,16 +48,24 @@ pub record Accepted-call (bs : List ℕ) (s l : ℕ) : Type 0 where
 
 -- the catalogue is written, or 15
 abbrev pub Writes : (bytes : List ℕ) (s l : ℕ) (out : List ℕ) → Catalogued → (out-now : List ℕ) → Type 0
-Writes bs s l o r z = List-written (Often (drawings-of bs) s) (support-in (drawings-of bs)) l o r z
+Writes bs s l o r z = List-written (Often-in bs s) (support-of bs) l o r z
 
 -- THE TABLES AT HAND
 pub tables-ready :
-    {bs labels rank alphabet : List ℕ} {n s l : ℕ} → Accepted-call bs s l → Tables bs labels → Ranks (drawings-of bs) rank alphabet n
-    → Bits-noted bs labels rank n → Can-mine bs labels rank alphabet (record { labels = n; threshold = s; limit = l })
-tables-ready a t o b =
+    {bs before labels rank alphabet : List ℕ} {n s l : ℕ} → Accepted-call bs s l → Tables bs before → Ranks (drawings-of bs) rank alphabet n
+    → Bits-noted bs before rank n → Beside-sheets before labels → Sheets-noted (cranes-of bs) (sheets-of labels)
+    → Can-mine bs labels rank alphabet (record { labels = n; threshold = s; limit = l })
+tables-ready {bs} {rank = rank} {n = n} a t o b beside noted =
+    let most = accepted-survey bs (a .accepted) .most in
     record {
       set-up = record {
-        prepared = record { accepted = a .accepted; tables = t; ranks = o; bits = b };
+        prepared = record {
+          accepted = a .accepted;
+          tables = tables-beside bs most beside t;
+          ranks = o;
+          bits = bits-beside bs most beside rank n b;
+          sheets = sheets-counted bs (a .accepted) noted;
+        };
         one = a .one;
         most = a .most;
         small = a .small;
@@ -67,7 +79,7 @@ module _ {bs : List ℕ} {s l : ℕ} (a : Accepted-call bs s l) (n : ℕ) where
       (o z : List ℕ) (k : ℕ) → Mined bs (record { labels = n; threshold = s; limit = l }) o (To k) z → length z ≡ length o
       → Writes bs s l o (Entries k) z
   writes-all =
-      list-written (Often (drawings-of bs) s) (support-in (drawings-of bs)) l (often-closed (drawings-of bs) s) (support-kept (drawings-of bs))
+      list-written (Often-in bs s) (support-of bs) l (often-closed (cranes-of bs) (drawings-of bs) s) (support-kept (cranes-of bs) (drawings-of bs))
       (a .small)
 
   -- DOES NOT FIT
@@ -75,15 +87,15 @@ module _ {bs : List ℕ} {s l : ℕ} (a : Accepted-call bs s l) (n : ℕ) where
       (o y z : List ℕ) → Mined bs (record { labels = n; threshold = s; limit = l }) o Full y → length y ≡ length o → z ≡ replicate (length y) 0
       → Writes bs s l o (Refused OutputLength 0) z
   writes-empty =
-      list-too-long (Often (drawings-of bs) s) (support-in (drawings-of bs)) l
-      (catalogue-exists kinds-before kinds-order (drawings-of bs) s l (a .one))
+      list-too-long (Often-in bs s) (support-of bs) l
+      (catalogue-exists kinds-before kinds-order (cranes-of bs) (drawings-of bs) s l (a .one))
 
 -- THE OUTCOME OF THE CALL
 module _ (bs : List ℕ) (s l : ℕ) (o z : List ℕ) where
   turned-back :
       (r : Catalogued) → 0 < catalogued-refusal r .number → survey-refusal bs s l ≡ catalogued-refusal r → z ≡ o → Catalogue-says bs s l r o z
   turned-back r h e =
-      says-refused (survey-refusal bs s l) (Often (survey bs) s) (support-in (survey bs)) l r o z (rw e h) (sym e)
+      says-refused (survey-refusal bs s l) (Often-in bs s) (support-of bs) l r o z (rw e h) (sym e)
 
   -- 12
   pub says-threshold : (s < 1) ⊎ (32 < s) → z ≡ o → Catalogue-says bs s l (Refused Threshold 0) o z
@@ -133,5 +145,5 @@ module _ (bs : List ℕ) (s l : ℕ) (o z : List ℕ) where
   -- the catalogue, or 15
   pub says-written : (r : Catalogued) → Accepted-call bs s l → Writes bs s l o r z → Catalogue-says bs s l r o z
   says-written r a w =
-      says-list (survey-refusal bs s l) (Often (survey bs) s) (support-in (survey bs)) l r o z
+      says-list (survey-refusal bs s l) (Often-in bs s) (support-of bs) l r o z
       (ap (λ (f : surveys.Refusal). f .number) (survey-decides (a .one) (a .most) (a .some) (a .small)) ∙ a .accepted) w

@@ -1,4 +1,4 @@
-// The catalogue of a survey: every pattern that enough drawings contain, with its least code and its support.
+// The catalogue of a survey: every pattern that drawings of enough cranes contain, with its least code and its support.
 use candidates::choose::CANDIDATES;
 use checks::survey::check_survey;
 use embeddings::rows::KEPT;
@@ -15,6 +15,7 @@ use records::entry::Entry;
 use records::refusal::Refusal;
 use records::survey::Survey;
 use records::survey::SurveyChecked;
+use sheets::note::note_sheets;
 use survey_patterns::mine::mine;
 use surveys::bits::note_bits;
 use surveys::labels::TABLES;
@@ -23,7 +24,7 @@ ghost use Rattle.survey_patterns.specs.SurveyMined.{Can-mine, Mined};
 ghost use Rattle.mining.specs.CatalogueSays.{Catalogue-says};
 ghost use Rattle.mining.specs.WriteLaws.{Accepted-call, Writes};
 
-// Writes an entry for every pattern that enough drawings contain. The arrays of the search stand here and are lent on; there is
+// Writes an entry for every pattern that drawings of enough cranes contain. The arrays of the search stand here and are lent on; there is
 // no heap.
 fn write_patterns(
     survey: &[u8],
@@ -67,6 +68,7 @@ fn write_accepted(survey: &[u8], threshold: usize, limit: usize, output: &mut [u
     let mut alphabet = [0; ALPHABET];
     let n = rank_labels(survey, &mut rank, &mut alphabet);
     note_bits(survey, &mut labels, &rank, n);
+    note_sheets(survey, &mut labels);
     let settings = Settings {
         labels: n,
         threshold,
@@ -81,7 +83,7 @@ fn write_accepted(survey: &[u8], threshold: usize, limit: usize, output: &mut [u
     }
 }
 
-// Writes the catalogue of a survey: all patterns of at most `limit` cables that at least `threshold` drawings contain.
+// Writes the catalogue of a survey: all patterns of at most `limit` cables that drawings of at least `threshold` cranes contain.
 pub fn write_catalogue(survey: &[u8], threshold: u32, limit: u32, output: &mut [u8]) -> Catalogued
     ensures { λ r. ⌜ Catalogue-says (now (survey .entry)) threshold limit r (now (output .entry)) (now (output .exit)) ⌝ }
 {
@@ -99,7 +101,7 @@ pub fn write_catalogue(survey: &[u8], threshold: u32, limit: u32, output: &mut [
     write_accepted(survey, s, l, output)
 }
 
-// The usual catalogue: what at least two drawings contain, up to four cables.
+// The usual catalogue: what drawings of at least two cranes contain, up to four cables.
 pub fn usual_catalogue(survey: &[u8], output: &mut [u8]) -> Catalogued
     ensures { λ r. ⌜ Catalogue-says (now (survey .entry)) 2 4 r (now (output .entry)) (now (output .exit)) ⌝ }
 {

@@ -22,13 +22,13 @@ pub fetch-refused : (n d : ℕ) → n ≤ d → fetch-refusal n d ≡ 14
 unfolding fetch-refusal
 fetch-refused n d h = simp (le-ltb _ _ h)
 
--- A DRAWING's bytes: 72, a record of the survey
-pub drawing-length : (bs : List ℕ) (d : ℕ) → d < drawing-count bs → length (row 72 d bs) ≡ 72
-drawing-length bs d h = row-length 72 d bs (omega arith)
+-- A DRAWING's bytes: 73, a record of the survey
+pub drawing-length : (bs : List ℕ) (d : ℕ) → d < drawing-count bs → length (row 73 d bs) ≡ 73
+drawing-length bs d h = row-length 73 d bs (omega arith)
 
-pub drawing-record : (bs : List ℕ) (d : ℕ) → d < drawing-count bs → row 72 d bs ≡ getD (records-in bs) d []
+pub drawing-record : (bs : List ℕ) (d : ℕ) → d < drawing-count bs → row 73 d bs ≡ getD (records-in bs) d []
 unfolding records-in
-drawing-record bs d h = sym (rows-at 72 (drawing-count bs) d bs h)
+drawing-record bs d h = sym (rows-at 73 (drawing-count bs) d bs h)
 
 module _ {survey : RefT (List ℕ)} {o : Opened} (opens : Opens survey o) where
   -- THE DRAWINGS of the reader
@@ -57,13 +57,13 @@ module _ {survey : RefT (List ℕ)} {o : Opened} (opens : Opens survey o) where
         below : d < reader-drawings (o .reader)
         below = omega (arith, accepted-drawings a)
 
-        pub fetched-drawing : Fetch-gives r 0 (row 72 d (now survey))
+        pub fetched-drawing : Fetch-gives r 0 (row 73 d (now survey))
         fetched-drawing = record {
           refusal = fetches .refusal ∙ fetch-accepted _ d below;
-          part = fetches .part .bytes below ∙ ap (λ (x : RefT (List ℕ)). row 72 d (now x)) (opens .reader .accepted a);
+          part = fetches .part .bytes below ∙ ap (λ (x : RefT (List ℕ)). row 73 d (now x)) (opens .reader .accepted a);
         }
 
         -- those very bytes
-        pub fetched-place : ptr (r .part) ≡ further (72 * d) (ptr survey)
+        pub fetched-place : ptr (r .part) ≡ further (73 * d) (ptr survey)
         fetched-place =
-            fetches .part .place below ∙ ap (λ (x : RefT (List ℕ)). further (72 * d) (ptr x)) (opens .reader .accepted a)
+            fetches .part .place below ∙ ap (λ (x : RefT (List ℕ)). further (73 * d) (ptr x)) (opens .reader .accepted a)

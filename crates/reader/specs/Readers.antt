@@ -23,10 +23,10 @@ pub record Readable (survey part : RefT (List ℕ)) : Type 0 where
   pub accepted : length-refusal (now survey) ≡ 0 → part ≡ survey
   pub refused : 0 < length-refusal (now survey) → now part ≡ []
 
--- drawing d as those very 72 bytes of the survey, and an empty part where d is not below the number of drawings
+-- drawing d as those very 73 bytes of the survey, and an empty part where d is not below the number of drawings
 pub record Drawing-at (survey : RefT (List ℕ)) (d : ℕ) (part : RefT (List ℕ)) : Type 0 where
-  pub bytes : d < drawing-count (now survey) → now part ≡ row 72 d (now survey)
-  pub place : d < drawing-count (now survey) → ptr part ≡ further (72 * d) (ptr survey)
+  pub bytes : d < drawing-count (now survey) → now part ≡ row 73 d (now survey)
+  pub place : d < drawing-count (now survey) → ptr part ≡ further (73 * d) (ptr survey)
   pub none : drawing-count (now survey) ≤ d → now part ≡ []
 
 -- 14 a fetch with d not below the number of drawings

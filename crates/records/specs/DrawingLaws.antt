@@ -7,7 +7,7 @@ use native.Mathlib.Omega.{arith}
 use borrow.Author.Tests.{eq-eqb, ne-eqb, le-leb, lt-leb, leb-true}
 use lib.Dec.{leb}
 use lib.ListN.{length, getD, take, drop, length-drop}
-use lib.Seq.{take-all, length-take-le}
+use lib.Seq.{length-take-le}
 use Rattle.laws.specs.Tests.{and-split, passes}
 use Rattle.graphs.specs.Drawing.{devices, cables-fit, drawing-in, cable-refusal, all-zero, unused-zero, connected, drawing-refusal}
 use Rattle.graphs.specs.Sections.{fit-from-test, fit-most}
@@ -47,7 +47,7 @@ module _ (d : Drawing) where
   pub devices-few : counts-refusal d ≡ 0 → d .devices ≤ 10
   devices-few e = leb-true (d .devices) 10 (and-split (leb 1 (d .devices)) (leb (d .devices) 10) (fine-tests e .0) .1)
 
-  pub counts-known : (bs : List ℕ) → length bs ≡ 72 → d ≡ counts-in bs → counts-refusal d ≡ 0 → Counts-within bs d
+  pub counts-known : (bs : List ℕ) → length bs ≡ 73 → d ≡ counts-in bs → counts-refusal d ≡ 0 → Counts-within bs d
   counts-known bs whole is e =
       record {
         whole = whole;
@@ -63,19 +63,19 @@ module _ (bs : List ℕ) (d : Drawing) (known : Counts-within bs d) where
   cables-is : getD bs 1 0 ≡ d .cables
   cables-is = ap (λ (x : Drawing). x .cables) (sym (known .counts))
 
-  -- THE UNUSED BYTES, as parts of the record
+  -- THE UNUSED BYTES, as parts of the record: they end before the cables and before the crane
   abbrev pub kinds-unused : List ℕ
   kinds-unused = take (12 - (2 + d .devices)) (drop (2 + d .devices) bs)
 
   abbrev pub cables-unused : List ℕ
-  cables-unused = take (length bs - (12 + 3 * d .cables)) (drop (12 + 3 * d .cables) bs)
+  cables-unused = take (72 - (12 + 3 * d .cables)) (drop (12 + 3 * d .cables) bs)
 
   unused-parts : unused-zero bs ≡ (all-zero kinds-unused && all-zero cables-unused)
   unfolding unused-zero
   unused-parts =
       let e : 10 - d .devices ≡ 12 - (2 + d .devices) = omega arith in
-      let k : ℕ = 12 + 3 * d .cables in
-      rw (devices-is, cables-is, e, take-all (length bs - k) (drop k bs) (rw length-drop (omega arith)))
+      let f : 60 - 3 * d .cables ≡ 72 - (12 + 3 * d .cables) = omega arith in
+      rw (devices-is, cables-is, e, f)
 
   pub unused-kinds : all-zero kinds-unused ≡ false → unused-zero bs ≡ false
   unused-kinds e = unused-parts ∙ simp e
@@ -110,11 +110,11 @@ module _ (bs : List ℕ) where
 
 -- PLACE BY PLACE
 module _ (bs : List ℕ) where
-  pub size-refused : (length bs ≡ 72 → ⊥) → drawing-refusal bs ≡ 1
+  pub size-refused : (length bs ≡ 73 → ⊥) → drawing-refusal bs ≡ 1
   unfolding drawing-refusal
   size-refused h = simp (ne-eqb _ _ h)
 
-module _ (bs : List ℕ) (d : Drawing) (whole : length bs ≡ 72) (is : d ≡ counts-in bs) where
+module _ (bs : List ℕ) (d : Drawing) (whole : length bs ≡ 73) (is : d ≡ counts-in bs) where
   abbrev of-cables : ℕ
   of-cables = cable-refusal (d .devices) [] (cables-before (d .cables) bs)
 

@@ -23,7 +23,7 @@ rest-refusal bs = cond (not (unused-zero bs)) 7 (cond (connected (drawing-in bs)
 
 -- a record of the right length, with its counts, which are within the limits
 pub record Counts-within (bs : List ℕ) (d : Drawing) : Type 0 where
-  pub whole : length bs ≡ 72
+  pub whole : length bs ≡ 73
   pub counts : d ≡ counts-in bs
   pub devices-most : d .devices ≤ 10
   pub cables-most : d .cables ≤ 20

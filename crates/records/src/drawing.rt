@@ -1,4 +1,4 @@
-// A drawing's record: n, m, ten device kinds, twenty cables of three bytes (one end, other end, cable kind).
+// A drawing's record: n, m, ten device kinds, twenty cables of three bytes (one end, other end, cable kind), the number of its crane.
 use crate::bytes::byte_or_zero;
 use crate::refusal::Checked;
 use crate::refusal::Refusal;
@@ -14,7 +14,7 @@ pub struct Drawing {
 }
 
 impl Drawing {
-    pub const BYTES: usize = 72;
+    pub const BYTES: usize = 73;
 
     pub const LEAST_DEVICES: usize = 1;
 
@@ -29,6 +29,8 @@ impl Drawing {
     pub const CABLES_AT: usize = 12;
 
     pub const CABLE_BYTES: usize = 3;
+
+    pub const CRANE_AT: usize = 72;
 
     // What the first two bytes say, whether or not it is within the limits; a byte that is not there counts as 0.
     pub fn counted(drawing: &[u8]) -> Self

@@ -15,7 +15,7 @@ impl Entry {
 
     pub const RECORDS_AT: usize = 2;
 
-    // An entry for a pattern of so many cables that so many drawings contain.
+    // An entry for a pattern of so many cables with so much support.
     pub fn new(cables: usize, support: usize) -> Self
         ensures { λ r. ⌜ r ≡ record { cables = cables; support = support } ⌝ }
     {

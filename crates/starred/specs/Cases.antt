@@ -1,5 +1,5 @@
--- What the paper says of its starred drawings, D1 to D12, and of sections with one device: the kinds of case, what each means, how
--- each is computed, and the table. Assumes nothing: these are definitions.
+-- What the paper says of its starred drawings, D1 to D12, of sections with one device and of sheets of one crane: the kinds of case, what
+-- each means, how each is computed, and the table. Assumes nothing: these are definitions.
 use mathlib.Core.Path.{_≡_}
 use mathlib.Core.Bool.{Bool, true, false, _&&_, not, cond}
 use mathlib.Core.List.{List, [], _∷_, _++_, map}
@@ -9,7 +9,7 @@ use lib.Dec.{leb, eqb}
 use lib.ListN.{length, replicate}
 use Rattle.graphs.specs.Drawing.{Cable, Drawing, kind, drawing-in, drawing-bytes, byte-list, accepted}
 use Rattle.graphs.specs.Map.{same-by, maps-into, least-map, contains, Found}
-use Rattle.graphs.specs.Survey.{survey, survey-refusal}
+use Rattle.graphs.specs.Survey.{survey, cranes, survey-refusal}
 use Rattle.codes.specs.Code.{Rec, kinds-before, rows-good, rec-bytes, decoded, Code-of}
 use Rattle.codes.specs.SectionCode.{lone-code, section-code-refusal, Least-section}
 use Rattle.codes.specs.LeastSearch.{rows-same, is-least-code}
@@ -38,7 +38,7 @@ Holds (refused-code bs n) = section-code-refusal bs ≡ n
 Holds (matched ps ds f) = (accepted ps ≡ true) × (accepted ds ≡ true) × Found (drawing-in ps) (drawing-in ds) f
 Holds (not-contained ps ds) =
     (accepted ps ≡ true) × (accepted ds ≡ true) × ((g : List ℕ) → maps-into (drawing-in ps) (drawing-in ds) g ≡ true → ⊥)
-Holds (catalogued bs s l es) = (byte-list bs ≡ true) × (survey-refusal bs s l .number ≡ 0) × Catalogue (survey bs) s l es
+Holds (catalogued bs s l es) = (byte-list bs ≡ true) × (survey-refusal bs s l .number ≡ 0) × Catalogue (cranes bs) (survey bs) s l es
 
 -- HOW IT IS COMPUTED: a code by the least map of what it describes, the least code by search, the catalogue by growth
 unfoldable pub same-by-found : Drawing → Drawing → Option (List ℕ) → Bool
@@ -79,7 +79,7 @@ meets (refused-code bs n) = eqb (section-code-refusal bs) n
 meets (matched ps ds f) = accepted ps && (accepted ds && is-map (least-map (drawing-in ps) (drawing-in ds)) f)
 meets (not-contained ps ds) = accepted ps && (accepted ds && not (contains (drawing-in ps) (drawing-in ds)))
 meets (catalogued bs s l es) =
-    byte-list bs && (eqb (survey-refusal bs s l .number) 0 && same-entries (mined-entries kinds-before (survey bs) s l) es)
+    byte-list bs && (eqb (survey-refusal bs s l .number) 0 && same-entries (mined-entries kinds-before (cranes bs) (survey bs) s l) es)
 
 unfoldable pub all-meet : List Case → Bool
 all-meet [] = true
@@ -93,34 +93,35 @@ abbrev pub tuple : (i j ki c kj : ℕ) → Rec
 tuple i j ki c kj = record { i = i; j = j; ki = ki; c = c; kj = kj }
 
 unfoldable pub drawing-of : (kinds : List ℕ) → List Cable → List ℕ
-drawing-of ks cs = drawing-bytes (record { kinds = ks; cables = cs })
+drawing-of ks cs = drawing-bytes 0 (record { kinds = ks; cables = cs })
 
 -- D3 to D10 have kind 1 and cable 5 throughout: pairs alone tell them
 abbrev pub Pairs : Type 0
 Pairs = List (ℕ × ℕ)
 
-unfoldable pub plain-drawing : (devices : ℕ) → Pairs → List ℕ
-plain-drawing n ps = drawing-of (replicate n 1) (map (λ p. cable (p .0) (p .1) 5) ps)
+unfoldable pub plain-sheet : (crane devices : ℕ) → Pairs → List ℕ
+plain-sheet k n ps = drawing-bytes k (record { kinds = replicate n 1; cables = map (λ p. cable (p .0) (p .1) 5) ps })
 
 unfoldable pub plain-code : Pairs → List Rec
 plain-code ps = map (λ p. tuple (p .0) (p .1) 1 5 1) ps
 
 -- the pairs are the drawing's cables and its least code alike
 unfoldable pub alike : (devices : ℕ) → Pairs → Case
-alike n ps = coded (plain-drawing n ps) (plain-code ps)
+alike n ps = coded (plain-sheet 0 n ps) (plain-code ps)
 
-abbrev path-of-3 : List ℕ
-path-of-3 = plain-drawing 3 ((0, 1) ∷ (1, 2) ∷ [])
+-- D3 and D4 as sheets of a crane
+abbrev path-of-3 : (crane : ℕ) → List ℕ
+path-of-3 k = plain-sheet k 3 ((0, 1) ∷ (1, 2) ∷ [])
 
-abbrev triangle : List ℕ
-triangle = plain-drawing 3 ((0, 1) ∷ (1, 2) ∷ (2, 0) ∷ [])
+abbrev triangle : (crane : ℕ) → List ℕ
+triangle k = plain-sheet k 3 ((0, 1) ∷ (1, 2) ∷ (2, 0) ∷ [])
 
--- the codes of D3's first record, D3, D4 with supports 2, 2, 1
-abbrev path-and-triangle : List Entry
-path-and-triangle =
-    entry 2 (plain-code ((0, 1) ∷ []))
-    ∷ entry 2 (plain-code ((0, 1) ∷ (1, 2) ∷ []))
-    ∷ entry 1 (plain-code ((0, 1) ∷ (1, 2) ∷ (2, 0) ∷ []))
+-- the codes of D3's first record, D3, D4 with these supports
+abbrev path-and-triangle : (cable path ring : ℕ) → List Entry
+path-and-triangle a b c =
+    entry a (plain-code ((0, 1) ∷ []))
+    ∷ entry b (plain-code ((0, 1) ∷ (1, 2) ∷ []))
+    ∷ entry c (plain-code ((0, 1) ∷ (1, 2) ∷ (2, 0) ∷ []))
     ∷ []
 
 -- THE TABLE
@@ -141,16 +142,16 @@ table =
     -- D7 star of 3
     ∷ alike 4 ((0, 1) ∷ (1, 2) ∷ (1, 3) ∷ [])
     -- D8 a DFS code of D3, not its least
-    ∷ other-code path-of-3 (plain-code ((0, 1) ∷ (0, 2) ∷ []))
+    ∷ other-code (path-of-3 0) (plain-code ((0, 1) ∷ (0, 2) ∷ []))
     -- D9 refusal 10
     ∷ refused-code (rec-bytes (plain-code ((0, 1) ∷ (1, 2) ∷ (0, 3) ∷ (1, 4) ∷ []))) 10
     -- D10 refusal 10
     ∷ refused-code (rec-bytes (plain-code ((0, 1) ∷ (1, 0) ∷ []))) 10
     -- D11 D3 in D4, and D4 in D3
-    ∷ matched path-of-3 triangle (0 ∷ 1 ∷ 2 ∷ [])
-    ∷ not-contained triangle path-of-3
-    -- D12 D3 then D4, s = 1, L = 4
-    ∷ catalogued (path-of-3 ++ triangle) 1 4 path-and-triangle
+    ∷ matched (path-of-3 0) (triangle 0) (0 ∷ 1 ∷ 2 ∷ [])
+    ∷ not-contained (triangle 0) (path-of-3 0)
+    -- D12 D3 then D4 as cranes 0 and 1, s = 1, L = 4
+    ∷ catalogued (path-of-3 0 ++ triangle 1) 1 4 (path-and-triangle 2 2 1)
     -- one device, kinds 7 and 8
     ∷ coded (drawing-of (7 ∷ []) []) (lone-code 7)
     ∷ coded (drawing-of (8 ∷ []) []) (lone-code 8)
@@ -161,9 +162,17 @@ table =
     ∷ refused-code (rec-bytes (lone-code 7 ++ lone-code 7)) 10
     ∷ refused-code (rec-bytes (plain-code ((0, 1) ∷ []) ++ lone-code 1)) 10
     -- kind 1 in D3, and not the other way round
-    ∷ matched (drawing-of (1 ∷ []) []) path-of-3 (0 ∷ [])
-    ∷ not-contained path-of-3 (drawing-of (1 ∷ []) [])
+    ∷ matched (drawing-of (1 ∷ []) []) (path-of-3 0) (0 ∷ [])
+    ∷ not-contained (path-of-3 0) (drawing-of (1 ∷ []) [])
     -- among D3 and D4 they add nothing, and alone they have no entry
-    ∷ catalogued (drawing-of (1 ∷ []) [] ++ path-of-3 ++ drawing-of (7 ∷ []) [] ++ triangle) 1 4 path-and-triangle
+    ∷ catalogued (drawing-of (1 ∷ []) [] ++ path-of-3 0 ++ drawing-of (7 ∷ []) [] ++ triangle 1) 1 4 (path-and-triangle 2 2 1)
     ∷ catalogued (drawing-of (7 ∷ []) [] ++ drawing-of (7 ∷ []) []) 1 4 []
+    -- D3 and D4 as two sheets of crane 0 count once: at s = 2 there is no entry
+    ∷ catalogued (path-of-3 0 ++ triangle 0) 1 4 (path-and-triangle 1 1 1)
+    ∷ catalogued (path-of-3 0 ++ triangle 0) 2 4 []
+    -- sheets of one crane need not stand side by side
+    ∷ catalogued (triangle 0 ++ path-of-3 255 ++ triangle 0) 1 4 (path-and-triangle 2 2 1)
+    -- codes and maps ignore the crane
+    ∷ coded (triangle 255) (plain-code ((0, 1) ∷ (1, 2) ∷ (2, 0) ∷ []))
+    ∷ matched (path-of-3 7) (triangle 255) (0 ∷ 1 ∷ 2 ∷ [])
     ∷ []

@@ -21,6 +21,7 @@ use Rattle.graphs.specs.Drawing.{
   cable-in,
   cables-in,
   drawing-in,
+  crane-in,
   cable-bytes,
   drawing-bytes,
   joins,
@@ -61,13 +62,15 @@ use Rattle.graphs.specs.Map.{
 use Rattle.graphs.specs.Survey.{
   records-in,
   survey,
+  cranes,
   refusal,
   drawings-refusal,
   length-refusal,
   bytes-refusal,
   survey-refusal,
   containing,
-  count-true,
+  marked-cranes,
+  each-once,
   support,
 }
 use Rattle.graphs.specs.Patterns.{accepted-section}
@@ -154,7 +157,7 @@ use Rattle.starred.specs.Cases.{
   meets,
   all-meet,
   drawing-of,
-  plain-drawing,
+  plain-sheet,
   plain-code,
   alike,
   table,
@@ -163,7 +166,7 @@ use Rattle.starred.specs.Cases.{
 -- THE STARRED DRAWINGS, computed
 pub starred : all-meet table ≡ true
 unfolding table has-cables is-least-section cables-fit lone-record lone-row lone-refusal lone-bytes section-code-refusal
-    alike is-map same-numbers contains is-some plain-code plain-drawing drawing-of all-meet meets is-code-of same-by-found
+    alike is-map same-numbers contains is-some plain-code plain-sheet drawing-of all-meet meets is-code-of same-by-found
     is-least-code rows-same least-code search-rows least-record after-record locals chord-choice edge-choice firsts first-choice ways
     first-record edge-record chord-record least-of only-if each concat rows
     code-refusal recs-in rec-in rec-bytes rows-good rows-refusal kinds-match step-good forward-good backward-good second end forward
@@ -171,7 +174,8 @@ unfolding table has-cables is-least-section cables-fit lone-record lone-row lone
     least-map search-from step-fits when try-each or-map fits-so-far same-by inverse-from inverse-at maps-into cables-land kinds-kept
     all-different has-cable accepted byte-list drawing-refusal connected reached spread with-ends member unused-zero all-zero
     cable-refusal joined-by joins drawing-bytes cable-bytes drawing-in cables-in cable-in
-    same-entries mined-entries mined is-frequent next-records sorted placed is-least is-pattern support count-true containing
+    same-entries mined-entries mined is-frequent next-records sorted placed is-least is-pattern support marked-cranes each-once
+    containing cranes crane-in
     survey-refusal bytes-refusal length-refusal drawings-refusal refusal survey records-in
 starred = refl
 
@@ -262,11 +266,11 @@ meets-holds (not-contained ps ds) h =
     let ends = accepted-section ps (s .0) .simple .ends in
     (s .0, t .0, λ g m. true-and-false (contains-from-embedding p d g ends (embedding-from-test p d g m)) (not-true (contains p d) (t .1)))
 meets-holds (catalogued bs s l es) h =
-    let grown = mined-entries kinds-before (survey bs) s l in
+    let grown = mined-entries kinds-before (cranes bs) (survey bs) s l in
     let t = and-split (byte-list bs) (eqb (survey-refusal bs s l .number) 0 && same-entries grown es) h in
     let u = and-split (eqb (survey-refusal bs s l .number) 0) (same-entries grown es) (t .1) in
     let fine = eqb-true (survey-refusal bs s l .number) 0 (u .0) in
-    (t .0, fine, subst (Catalogue (survey bs) s l) (entries-from-test grown es (u .1)) (catalogue-mined bs s l fine))
+    (t .0, fine, subst (Catalogue (cranes bs) (survey bs) s l) (entries-from-test grown es (u .1)) (catalogue-mined bs s l fine))
 
 all-hold : (cs : List Case) → all-meet cs ≡ true → (c : Case) → Mem c cs → Holds c
 unfolding all-meet

@@ -5,7 +5,7 @@ ghost use Prim.Native.Nat.{_≤_};
 ghost use Rattle.survey_input.specs.ReadingInput.{after-read, Read-within};
 
 // One drawing more than a survey may have: a longer input is refused as one of 33 drawings.
-pub const INPUT_BYTES: usize = 2376;
+pub const INPUT_BYTES: usize = 2409;
 
 // So many bytes are read, or a read failed.
 pub enum Input {
@@ -22,7 +22,7 @@ pub enum Turn {
 
 // What the answer of a read means, with n bytes read before it: -1 that it failed, 0 that the input has ended.
 fn after_read(n: usize, got: isize) -> Turn
-    requires { ⌜ n ≤ 2376 ⌝ }
+    requires { ⌜ n ≤ 2409 ⌝ }
     ensures { λ r. ⌜ r ≡ after-read n got ⌝ }
 {
     if got < 0 {

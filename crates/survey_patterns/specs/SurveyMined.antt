@@ -6,16 +6,16 @@ use Prim.Native.Nat.{ℕ, _+_, _*_, _≤_}
 use lib.ListN.{length}
 use Rattle.codes.specs.Code.{Rec, kinds-before}
 use Rattle.codes.specs.CodeOrder.{kinds-order}
-use Rattle.growth.specs.Catalogue.{Often, support-in}
+use Rattle.growth.specs.Catalogue.{Often-in, support-of}
 use Rattle.growth.specs.Listings.{Lists}
 use Rattle.growth.specs.Growth.{Listed, Listed-by}
-use Rattle.growth.specs.Frequent.{Frequent}
+use Rattle.growth.specs.Frequent.{Frequent-in}
 use Rattle.growth.specs.Firsts.{Firsts}
 use Rattle.growth.specs.Sizes.{candidates-size}
 use Rattle.entries.specs.declared.output.Growth.{Growth}
 use Rattle.entries.specs.declared.output.Growth.the-variants.{To, Full}
 use Rattle.growing.specs.declared.grow.Settings.{Settings}
-use Rattle.walks.specs.LabelMarks.{drawings-of}
+use Rattle.walks.specs.LabelMarks.{drawings-of, cranes-of}
 use Rattle.walks.specs.Counts.{Blank}
 use Rattle.walks.specs.EmbeddingLists.{Lists-sized}
 use Rattle.growing.specs.GrowthOutcomes.{Set-up}
@@ -29,8 +29,8 @@ pub record Can-mine (survey labels rank alphabet : List ℕ) (g : Settings) : Ty
 -- ALL FREQUENT LEAST CODES are listed, or they do not fit
 abbrev pub Mined : (survey : List ℕ) (g : Settings) (out : List ℕ) → Growth → (out-now : List ℕ) → Type 0
 Mined survey g out r z =
-    Outcome (Often (drawings-of survey) (g .threshold)) (support-in (drawings-of survey)) (g .limit)
-    (Listed kinds-before kinds-order (Frequent kinds-before (drawings-of survey) (g .threshold)) (g .limit) []) [] out z r
+    Outcome (Often-in survey (g .threshold)) (support-of survey) (g .limit)
+    (Listed kinds-before kinds-order (Frequent-in kinds-before survey (g .threshold)) (g .limit) []) [] out z r
 
 -- MEANWHILE: those whose device 0 has a kind below k
 pub record Kinds-done (survey : List ℕ) (g : Settings) (out : List ℕ) (k : ℕ) (cells seen list out-now : List ℕ) (written : ℕ) : Type 0 where
@@ -41,10 +41,10 @@ pub record Kinds-done (survey : List ℕ) (g : Settings) (out : List ℕ) (k : �
   pub room : 42 * written ≤ length out-now
   pub firsts : List Rec
   pub codes : List (List Rec)
-  pub first : Firsts (drawings-of survey) (g .threshold) k firsts
+  pub first : Firsts (cranes-of survey) (drawings-of survey) (g .threshold) k firsts
   pub listed :
-      Listed-by kinds-before kinds-order (Frequent kinds-before (drawings-of survey) (g .threshold)) (g .limit) [] firsts codes
-  pub lists : Lists (support-in (drawings-of survey)) codes out out-now written
+      Listed-by kinds-before kinds-order (Frequent-in kinds-before survey (g .threshold)) (g .limit) [] firsts codes
+  pub lists : Lists (support-of survey) codes out out-now written
 
 -- ONE KIND MORE: what it asks
 pub record Can-mine-kind

@@ -12,9 +12,9 @@ use Rattle.codes.specs.Code.{Rec, fresh, rows-refusal, decoded, kinds-before, b
 use Rattle.codes.specs.CodeOrder.{kinds-order, difference-decides}
 use Rattle.codes.specs.Greedy.{Greedy}
 use Rattle.codes.specs.ReadRows.{rows-nil}
-use Rattle.growth.specs.Catalogue.{Often, all-bytes}
+use Rattle.growth.specs.Catalogue.{all-bytes, Often-in}
 use Rattle.growth.specs.Growth.{listed-none}
-use Rattle.growth.specs.Frequent.{Frequent}
+use Rattle.growth.specs.Frequent.{Frequent-in}
 use Rattle.growth.specs.PlacedRecords.{alone}
 use Rattle.growth.specs.CountingExtensions.{First-of, Counting}
 use Rattle.growth.specs.ListedBy.{Chosen-places, Chosen-cells, place-in, records-at, chosen-places, listed-join}
@@ -24,10 +24,11 @@ use Rattle.growth.specs.Sizes.{candidates-size}
 use Rattle.entries.specs.declared.output.Growth.{Growth}
 use Rattle.entries.specs.declared.output.Growth.the-variants.{To, Full}
 use Rattle.growing.specs.declared.grow.Settings.{Settings}
-use Rattle.walks.specs.LabelMarks.{drawings-of}
+use Rattle.walks.specs.LabelMarks.{drawings-of, cranes-of}
 use Rattle.walks.specs.Counts.{Blank}
 use Rattle.walks.specs.Prepared.{Counted-cells}
-use Rattle.walks.specs.PreparedLaws.{prepared-few, prepared-sections}
+use Rattle.walks.specs.PreparedLaws.{as-many-cranes, prepared-few, prepared-sections}
+use Rattle.walks.specs.SheetTables.{sheets-of}
 use Rattle.laws.specs.Parts.{part}
 use Rattle.walks.specs.Choices.{Of-sets, Can-choose, Chose}
 use Rattle.growing.specs.GrowthOutcomes.{Fit, Can-walk-candidates, Candidates-walked}
@@ -52,7 +53,7 @@ module _ {survey labels rank alphabet : List ℕ} {g : Settings} (a : Can-mine s
   ds = drawings-of survey
 
   abbrev Wanted : List Rec → Type 0
-  Wanted = Frequent kinds-before (drawings-of survey) (g .threshold)
+  Wanted = Frequent-in kinds-before survey (g .threshold)
 
   -- THE START: no kind yet
   pub mine-starts :
@@ -67,7 +68,7 @@ module _ {survey labels rank alphabet : List ℕ} {g : Settings} (a : Can-mine s
         room = omega arith;
         firsts = [];
         codes = [];
-        first = firsts-none ds (g .threshold);
+        first = firsts-none (cranes-of survey) ds (g .threshold);
         listed = listed-none kinds-before kinds-order Wanted (g .limit) [];
         lists = record { count-is = refl; bytes = refl };
       }
@@ -97,12 +98,14 @@ module _ {survey labels rank alphabet : List ℕ} {g : Settings} (a : Can-mine s
     sets-few : (p : ℕ) → length (c .sets p) ≤ 32
     sets-few p = omega (arith, c .counting .size p, prepared-few (a .set-up .prepared))
 
-    of-sets : Of-sets (c .sets) cells₂
-    of-sets = record { few = sets-few; cell = c .cell }
+    of-sets : Of-sets (cranes-of survey) (c .sets) cells₂
+    of-sets = record { size = λ p. c .counting .size p ∙ sym (as-many-cranes survey); cell = c .cell }
 
-    pub mine-chooses : Can-choose cells₂ seen₂ found (g .threshold) list₁ 0
+    pub mine-chooses : Can-choose (sheets-of labels) cells₂ seen₂ found (g .threshold) list₁ 0
     mine-chooses =
         record {
+          cr = cranes-of survey;
+          cranes-told = a .set-up .prepared .sheets;
           sets = c .sets;
           of-sets = of-sets;
           places = c .places;
@@ -112,13 +115,13 @@ module _ {survey labels rank alphabet : List ℕ} {g : Settings} (a : Can-mine s
           room = omega arith;
         }
 
-    module _ {cells₃ list₃ : List ℕ} {top : ℕ} (t : Chose cells₂ (g .threshold) list₁ 0 cells₃ seen₂ list₃ top) {γ : List Rec}
+    module _ {cells₃ list₃ : List ℕ} {top : ℕ} (t : Chose (sheets-of labels) cells₂ (g .threshold) list₁ 0 cells₃ seen₂ list₃ top) {γ : List Rec}
         (n : γ ≡ []) where
-      chosen-cells : Chosen-cells (c .sets) (g .threshold) (g .labels) (part 0 top list₃)
-      chosen-cells = t .chosen (c .sets) of-sets (g .labels) (a .set-up .prepared .ranks .most)
+      chosen-cells : Chosen-cells (cranes-of survey) (c .sets) (g .threshold) (g .labels) (part 0 top list₃)
+      chosen-cells = t .chosen (cranes-of survey) (a .set-up .prepared .sheets) (c .sets) of-sets (g .labels) (a .set-up .prepared .ranks .most)
 
-      chosen : Chosen-places (c .sets) (g .threshold) (g .labels) (map place-in (part 0 top list₃))
-      chosen = chosen-places (c .sets) (g .threshold) (g .labels) (part 0 top list₃) sets-few chosen-cells
+      chosen : Chosen-places (cranes-of survey) (c .sets) (g .threshold) (g .labels) (map place-in (part 0 top list₃))
+      chosen = chosen-places (cranes-of survey) (c .sets) (g .threshold) (g .labels) (part 0 top list₃) sets-few chosen-cells
 
       abbrev news : List Rec
       news = records-at (alone k) alphabet (g .labels) (map place-in (part 0 top list₃))
@@ -140,7 +143,7 @@ module _ {survey labels rank alphabet : List ℕ} {g : Settings} (a : Can-mine s
           }
 
       -- what is listed stands ahead of the codes that begin with this kind
-      ahead : Ahead-of kinds-before kinds-order (Often (drawings-of survey) (g .threshold)) (g .limit) (w .codes) []
+      ahead : Ahead-of kinds-before kinds-order (Often-in survey (g .threshold)) (g .limit) (w .codes) []
           (records-at (alone k) alphabet (g .labels) (map place-in (part 0 top list₃)))
       ahead =
           record {

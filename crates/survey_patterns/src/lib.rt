@@ -1,3 +1,3 @@
-// Survey patterns: all patterns of a survey that enough drawings contain, kind by kind of device 0. Its functions ask of their
+// Survey patterns: all patterns of a survey that drawings of enough cranes contain, kind by kind of device 0. Its functions ask of their
 // callers what `requires` says; the entries of the public crates ask nothing.
 pub mod mine; // mine.rt: the patterns of one kind of device 0, and of all

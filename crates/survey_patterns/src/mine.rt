@@ -45,7 +45,7 @@ fn mine_kind(
         (now (ends .exit)) (now (output .exit)) ⌝ }
 {
     let found = count_firsts(survey, labels, rank, settings.labels, kind, cells, seen);
-    let top = choose(cells, seen, found, settings.threshold, list, 0);
+    let top = choose(labels, cells, seen, found, settings.threshold, list, 0);
     let mut code = [0; Code::BYTES];
     let mut kinds = [0; 10];
     walk(
@@ -72,7 +72,7 @@ fn mine_kind(
     )
 }
 
-// Writes an entry for every pattern that enough drawings contain, kind by kind.
+// Writes an entry for every pattern that drawings of enough cranes contain, kind by kind.
 pub fn mine(
     survey: &[u8],
     labels: &[u32; TABLES],

@@ -18,13 +18,13 @@ ghost use Rattle.walks.specs.SlotsMade.{Low-labels};
 ghost use Rattle.walks.specs.DrawingTables.{Drawing-put, Tables};
 
 // For each drawing that a survey may have a table of labels; then the slots of each; then where the slots' groups end; then the
-// bit of each label, where the survey has few labels.
-pub const TABLES: usize = 4 * Survey::MOST_DRAWINGS * CELLS;
+// bit of each label, where the survey has few labels; then one table for all drawings, of the sheets of one crane.
+pub const TABLES: usize = (4 * Survey::MOST_DRAWINGS + 1) * CELLS;
 
 // Puts a table into place d: first the tables of labels have theirs, then the slots, then the ends, then
-// the bits.
-pub(crate) fn put_table(table: &[u32; CELLS], d: usize, labels: &mut [u32; TABLES])
-    requires { ⌜ (d < 128) × (length (now table) ≡ 100) × (length (now labels) ≡ tables-size) ⌝ }
+// the bits, then the sheets.
+pub fn put_table(table: &[u32; CELLS], d: usize, labels: &mut [u32; TABLES])
+    requires { ⌜ (d < 129) × (length (now table) ≡ 100) × (length (now labels) ≡ tables-size) ⌝ }
     ensures { λ _. ⌜ now (labels .exit) ≡ put-record 100 d (now (table .entry)) (now (labels .entry)) ⌝ }
 {
     let at = CELLS * d;

@@ -25,7 +25,7 @@ module _ {bs : List ℕ} (A : Byte-record bs) where
   parts : Accepted-parts bs
   parts = accepted-parts bs (A .accepted)
 
-  pub record-size : length bs ≡ 72
+  pub record-size : length bs ≡ 73
   record-size = parts .size
 
   pub record-section : Section (drawing-in bs)

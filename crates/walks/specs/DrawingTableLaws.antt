@@ -25,10 +25,10 @@ unfolding put-record
 copied-whole w k r xs e = ap (λ (l : List ℕ). take (w * k) xs ++ l ++ drop (w * k + w) xs) (take-all w r (omega arith))
 
 -- ONE TABLE in its place leaves the size
-room-for : (k : ℕ) (xs : List ℕ) → k < 128 → length xs ≡ tables-size → 100 * k + 100 ≤ length xs
+room-for : (k : ℕ) (xs : List ℕ) → k < 129 → length xs ≡ tables-size → 100 * k + 100 ≤ length xs
 room-for k xs h e = omega arith
 
-pub put-sized : (k : ℕ) (r xs : List ℕ) → k < 128 → length r ≡ 100 → length xs ≡ tables-size → length (put-record 100 k r xs) ≡ tables-size
+pub put-sized : (k : ℕ) (r xs : List ℕ) → k < 129 → length r ≡ 100 → length xs ≡ tables-size → length (put-record 100 k r xs) ≡ tables-size
 put-sized k r xs h size e = put-length 100 k r xs size (room-for k xs h e) ∙ e
 
 -- ONE DRAWING: its table, its slots and their groups' ends
@@ -88,7 +88,7 @@ module _ (bs : List ℕ) where
   tables-none ls e = record { size = e; table = λ d h. absurd (not-suc-le-zero h); slots = λ d h. absurd (not-suc-le-zero h) }
 
   pub tables-next :
-      (n : ℕ) {before after t : List ℕ} → n < 32 → Labels (drawing-in (row 72 n bs)) t → Drawing-put t n before after
+      (n : ℕ) {before after t : List ℕ} → n < 32 → Labels (drawing-in (row 73 n bs)) t → Drawing-put t n before after
       → Tables-before n bs before → Tables-before (n + 1) bs after
   tables-next n {before} {after} {t} h l p T =
       record { size = p .size; table = λ d g. table d g (ℕ-discrete d n); slots = λ d g. slots d g (ℕ-discrete d n) }
@@ -103,7 +103,7 @@ module _ (bs : List ℕ) where
       ends-same : (d : ℕ) → d < n → drawing-ends after d ≡ drawing-ends before d
       ends-same d g = p .other (64 + d) (λ q. omega arith) (λ q. omega arith) (λ q. omega arith)
 
-      table : (d : ℕ) → d < n + 1 → Dec (d ≡ n) → Labels (drawing-in (row 72 d bs)) (row 100 d after)
+      table : (d : ℕ) → d < n + 1 → Dec (d ≡ n) → Labels (drawing-in (row 73 d bs)) (row 100 d after)
       table d g (yes q) = rw (q, p .table-is) l
       table d g (no q) = rw (table-same d (omega arith)) (T .table d (omega arith))
 

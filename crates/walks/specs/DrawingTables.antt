@@ -13,7 +13,7 @@ use Rattle.walks.specs.Slots.{Slots-in}
 -- those of the first n drawings, in room for 32
 pub record Tables-before (n : ℕ) (survey labels : List ℕ) : Type 0 where
   pub size : length labels ≡ tables-size
-  pub table : (d : ℕ) → d < n → Labels (drawing-in (row 72 d survey)) (row 100 d labels)
+  pub table : (d : ℕ) → d < n → Labels (drawing-in (row 73 d survey)) (row 100 d labels)
   pub slots : (d : ℕ) → d < n → Slots-in labels d
 
 -- all of them

@@ -59,14 +59,14 @@ pub occurs-none : (bs : List ℕ) (marks : List Bool) → length marks ≡ 256 �
 occurs-none bs marks e = record { size = e; noted = λ d u h. absurd (not-suc-le-zero h) }
 
 pub occurs-next :
-    (bs : List ℕ) (n : ℕ) (marks after : List Bool) → Occurs-before n bs marks → Noted (row 72 n bs) 10 marks after → Occurs-before (n + 1) bs after
+    (bs : List ℕ) (n : ℕ) (marks after : List Bool) → Occurs-before n bs marks → Noted (row 73 n bs) 10 marks after → Occurs-before (n + 1) bs after
 occurs-next bs n marks after o w = record { size = w .size; noted = λ d u h l. go d u h l (decLt d n) }
   where
-    go : (d u : ℕ) → d < n + 1 → u < 10 → Dec (d < n) → getD after (getD (row 72 d bs) (2 + u) 0) false ≡ true
-    go d u h l (yes z) = w .kept (getD (row 72 d bs) (2 + u) 0) (o .noted d u z l)
+    go : (d u : ℕ) → d < n + 1 → u < 10 → Dec (d < n) → getD after (getD (row 73 d bs) (2 + u) 0) false ≡ true
+    go d u h l (yes z) = w .kept (getD (row 73 d bs) (2 + u) 0) (o .noted d u z l)
     go d u h l (no z) =
         let e : d ≡ n = omega arith in
-        ap (λ (i : ℕ). getD after (getD (row 72 i bs) (2 + u) 0) false) e ∙ w .noted u l
+        ap (λ (i : ℕ). getD after (getD (row 73 i bs) (2 + u) 0) false) e ∙ w .noted u l
 
 -- A KIND THAT DOES NOT OCCUR begins no record
 pub no-first :
@@ -76,13 +76,13 @@ unfolding first-record
 no-first {survey} {marks = marks} p o k none d e m f =
     let i = place (record { kinds = []; cables = [] }) m in
     let l : i .i < drawing-count survey = rw (drawings-counted survey) at (i .below) in
-    let is : drawing-in (row 72 (i .i) survey) ≡ d = sym (drawing-read survey (i .i) l) ∙ i .is in
+    let is : drawing-in (row 73 (i .i) survey) ≡ d = sym (drawing-read survey (i .i) l) ∙ i .is in
     let c = fits-first d e (f .0) in
     let u-kind : kind d (c .u) ≡ k = ap (λ (x : Rec). x .ki) (c .record-is) ∙ f .1 in
     let w = prepared-section p (i .i) l in
-    let u-low : c .u < devices (drawing-in (row 72 (i .i) survey)) =
+    let u-low : c .u < devices (drawing-in (row 73 (i .i) survey)) =
     subst (λ (x : Drawing). c .u < devices x) (sym is) (subst (λ (x : Drawing). Rattle.graphs.specs.Embedding.Ends-in-range x) is
     (w .simple .ends) (c .u) (c .w) (c .k) (c .has)) in
-    let byte : getD (row 72 (i .i) survey) (2 + c .u) 0 ≡ k =
-    kind-byte (row 72 (i .i) survey) (prepared-accepted p (i .i) l) (c .u) u-low ∙ ap (λ (x : Drawing). kind x (c .u)) is ∙ u-kind in
+    let byte : getD (row 73 (i .i) survey) (2 + c .u) 0 ≡ k =
+    kind-byte (row 73 (i .i) survey) (prepared-accepted p (i .i) l) (c .u) u-low ∙ ap (λ (x : Drawing). kind x (c .u)) is ∙ u-kind in
     true-and-false (rw byte at (o .noted (i .i) (c .u) l (omega (arith, u-low, w .devices-high)))) none

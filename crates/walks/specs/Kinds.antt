@@ -16,7 +16,7 @@ pub record Noted (drawing : List ℕ) (n : ℕ) (before after : List Bool) : Typ
 -- the first n drawings of a survey are marked
 pub record Occurs-before (n : ℕ) (survey : List ℕ) (marks : List Bool) : Type 0 where
   pub size : length marks ≡ 256
-  pub noted : (d u : ℕ) → d < n → u < 10 → getD marks (getD (row 72 d survey) (2 + u) 0) false ≡ true
+  pub noted : (d u : ℕ) → d < n → u < 10 → getD marks (getD (row 73 d survey) (2 + u) 0) false ≡ true
 
 -- all of them
 abbrev pub Occurs : (survey : List ℕ) (marks : List Bool) → Type 0

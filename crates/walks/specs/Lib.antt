@@ -9,6 +9,7 @@ pub mod DrawingTables
 pub mod LabelMarks
 pub mod LabelBlocks
 pub mod LabelBits
+pub mod SheetTables
 pub mod Prepared
 pub mod Counts
 pub mod Choices
@@ -71,3 +72,4 @@ pub mod ListedCountLaws
 pub mod SweepLaws
 pub mod GatherLaws
 pub mod PutBitLaws
+pub mod SheetTableLaws

@@ -4,9 +4,12 @@
 use holvreiz::raw;
 use holvreiz_differential::answers::{self, Answer};
 use holvreiz_differential::book;
-use holvreiz_differential::catalogue::{Codes, ENTRY};
+use holvreiz_differential::catalogue::{each_its_crane, Codes, Entry, ENTRY};
+use holvreiz_differential::cranes;
+use holvreiz_differential::drawing::Drawing;
 use holvreiz_differential::lone;
 use holvreiz_differential::random::Random;
+use holvreiz_differential::refused::Refused;
 use holvreiz_differential::shims::{Came, Given, SHIMS};
 use std::collections::{BTreeMap, BTreeSet};
 
@@ -16,12 +19,15 @@ pub fn refused(number: u8, whose: &str) -> String {
     format!("refused {number:2}{whose}")
 }
 
-fn outcome(given: &Given, answer: &Answer) -> String {
-    let outcome = match answer.refused.number {
+fn said(answer: &Answer) -> String {
+    match answer.refused.number {
         0 => answer.said.to_string(),
         number => refused(number, answer.said),
-    };
-    outcome + lone::near(given.call, given.first, given.second, answer)
+    }
+}
+
+fn outcome(given: &Given, answer: &Answer) -> String {
+    said(answer) + lone::near(given.call, given.first, given.second, answer)
 }
 
 /// The number that a call returns. It names a drawing at fault, but no record of a code.
@@ -33,9 +39,13 @@ fn returned(answer: &Answer) -> u64 {
     (drawing as u64 * 256 + u64::from(answer.refused.number)) * (1 << 32) + answer.count as u64
 }
 
-/// How often each call had each outcome, and where the lent bytes come from.
+/// How often each call had each outcome.
+pub type Seen = BTreeMap<(&'static str, String), usize>;
+
+/// What was seen, of each call by itself and of the cranes beside it, and where the lent bytes come from.
 pub struct Calls {
-    seen: BTreeMap<(&'static str, String), usize>,
+    seen: Seen,
+    beside_cranes: Seen,
     found: BTreeSet<usize>,
     random: Random,
     codes: Codes,
@@ -53,14 +63,19 @@ impl Calls {
     pub fn new(seed: u64) -> Self {
         Calls {
             seen: BTreeMap::new(),
+            beside_cranes: BTreeMap::new(),
             found: BTreeSet::new(),
             random: Random::new(seed),
             codes: Codes::default(),
         }
     }
 
-    pub fn seen(&self) -> &BTreeMap<(&'static str, String), usize> {
+    pub fn seen(&self) -> &Seen {
         &self.seen
+    }
+
+    pub fn seen_beside_cranes(&self) -> &Seen {
+        &self.beside_cranes
     }
 
     /// The shims that no call has found out.
@@ -98,13 +113,13 @@ impl Calls {
             guards(&before),
             "{call} of {first:?}, {second:?}, {settings:?} wrote outside its output"
         );
-        self.spoil(
-            &given,
-            &expected,
-            number,
-            (output, &before[GUARD..][..room]),
-        );
+        let lent = &before[GUARD..][..room];
+        self.spoil(&given, &expected, number, (output, lent));
         *self.seen.entry((call, outcome)).or_default() += 1;
+        for told in cranes::told(&given, lent, &expected) {
+            let outcome = said(&expected) + told;
+            *self.beside_cranes.entry((call, outcome)).or_default() += 1;
+        }
     }
 
     /// Each shim of this call that is not found out yet, on a copy of what came back. The lent bytes are given as they are and were.
@@ -204,13 +219,33 @@ impl Calls {
     ) {
         let entries = self.codes.of_survey(survey, threshold, limit);
         let room = room(entries.as_ref().map_or(2, Vec::len) * ENTRY);
-        let expect = |lent: &[u8]| answers::catalogue(&entries, lent);
+        self.hold_catalogue(survey, [threshold, limit], &entries, room);
+    }
+
+    /// The catalogue of an old survey, converted: its drawings are counted one by one.
+    pub fn old_catalogue(&mut self, drawings: &[Drawing], threshold: u32, limit: u32) {
+        let (s, l) = (threshold as usize, limit as usize);
+        let entries = self.codes.catalogue_of_drawings(drawings, s, l);
+        let room = entries.len() * ENTRY + 1;
+        let survey = each_its_crane(drawings);
+        self.hold_catalogue(&survey, [threshold, limit], &Ok(entries), room);
+    }
+
+    fn hold_catalogue(
+        &mut self,
+        survey: &[u8],
+        settings: [u32; 2],
+        entries: &Result<Vec<Entry>, Refused>,
+        room: usize,
+    ) {
+        let expect = |lent: &[u8]| answers::catalogue(entries, lent);
         let given = Given {
             call: "catalogue",
             first: survey,
             second: &[],
-            settings: &[threshold, limit],
+            settings: &settings,
         };
+        let [threshold, limit] = settings;
         self.hold(given, room, expect, |output| {
             raw::catalogue(survey, threshold, limit, output)
         });

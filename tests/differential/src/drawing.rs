@@ -1,7 +1,9 @@
-//! Drawings: their record of 72 bytes, and refusals 1 to 8 by the paper's table.
+//! Drawings: their record of 73 bytes, and refusals 1 to 8 by the paper's table. The last byte is the number of the crane that the drawing is a
+//! sheet of; nothing about the drawing itself depends on it.
 use std::collections::HashSet;
 
-pub const RECORD: usize = 72;
+pub const RECORD: usize = 73;
+pub const CRANE_AT: usize = 72;
 pub const MOST_DEVICES: usize = 10;
 pub const MOST_CABLES: usize = 20;
 const KINDS_AT: usize = 2;
@@ -43,12 +45,20 @@ impl Drawing {
         joined
     }
 
+    /// The record with crane 0, as decoding writes it.
     pub fn record(&self) -> Vec<u8> {
+        self.sheet(0)
+    }
+
+    /// The record as a sheet of this crane.
+    pub fn sheet(&self, crane: u8) -> Vec<u8> {
         let mut record = vec![0; RECORD];
+        record[CRANE_AT] = crane;
         record[0] = self.kinds.len() as u8;
         record[1] = self.cables.len() as u8;
         record[KINDS_AT..][..self.kinds.len()].copy_from_slice(&self.kinds);
-        for (place, cable) in record[CABLES_AT..].chunks_mut(3).zip(&self.cables) {
+        let places = record[CABLES_AT..CRANE_AT].chunks_mut(3);
+        for (place, cable) in places.zip(&self.cables) {
             place.copy_from_slice(&[cable.a as u8, cable.b as u8, cable.kind]);
         }
         record
@@ -68,7 +78,7 @@ impl Drawing {
             return Err(3);
         }
         let (kinds, unused_kinds) = record[KINDS_AT..CABLES_AT].split_at(n);
-        let (cables, unused_cables) = record[CABLES_AT..].split_at(3 * m);
+        let (cables, unused_cables) = record[CABLES_AT..CRANE_AT].split_at(3 * m);
         let drawing = Drawing {
             kinds: kinds.to_vec(),
             cables: read_cables(n, cables)?,

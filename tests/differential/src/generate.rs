@@ -1,7 +1,7 @@
 //! What the calls are given: drawings of any shape, symmetric ones, the same ones drawn otherwise, parts of them, codes of
-//! them, and all of these damaged.
+//! them, and all of these damaged; and the cranes that drawings are sheets of.
 use crate::code::{self, Code};
-use crate::drawing::{Cable, Drawing, MOST_CABLES, MOST_DEVICES, RECORD};
+use crate::drawing::{Cable, Drawing, CRANE_AT, MOST_CABLES, MOST_DEVICES, RECORD};
 use crate::random::Random;
 
 /// How many devices, and how many kinds of devices and of cables: few kinds make many ties.
@@ -237,9 +237,46 @@ pub fn neighbour(random: &mut Random, drawing: &Drawing) -> Drawing {
     Drawing::read(&other.record()).unwrap_or_else(|_| drawing.clone())
 }
 
+/// Any crane, often one at an edge: the least and the greatest, and numbers that have their low bits in common.
+fn crane(random: &mut Random) -> u8 {
+    match random.below(3) {
+        0 => random.byte(),
+        _ => *random.pick(&[0, 0, 1, 31, 32, 63, 64, 127, 128, 192, 255, 255]),
+    }
+}
+
+/// The record of a drawing as a sheet of any crane.
+pub fn sheet(random: &mut Random, drawing: &Drawing) -> Vec<u8> {
+    drawing.sheet(crane(random))
+}
+
+/// A crane for each drawing of a survey: each its own, all one, or a few that repeat, side by side or apart.
+fn cranes(random: &mut Random, drawings: usize) -> Vec<u8> {
+    let few: Vec<u8> = (0..random.between(2, 5)).map(|_| crane(random)).collect();
+    let mut cranes: Vec<u8> = (0..=255).collect();
+    match random.below(6) {
+        0 => {}
+        1 => random.shuffle(&mut cranes),
+        2 => cranes.fill(few[0]),
+        _ => cranes.fill_with(|| *random.pick(&few)),
+    }
+    cranes.truncate(drawings);
+    if random.once_in(4) {
+        cranes.sort();
+    }
+    cranes
+}
+
+/// Drawings as a survey, each a sheet of some crane.
+pub fn survey(random: &mut Random, drawings: &[Drawing]) -> Vec<u8> {
+    let cranes = cranes(random, drawings.len());
+    let sheets = drawings.iter().zip(cranes);
+    sheets.flat_map(|(d, crane)| d.sheet(crane)).collect()
+}
+
 /// The record of a drawing with one to three faults. Some of them are none after all: an unused byte that is zero again.
 pub fn damaged_record(random: &mut Random, drawing: &Drawing) -> Vec<u8> {
-    let mut record = drawing.record();
+    let mut record = sheet(random, drawing);
     for _ in 0..random.between(1, 3) {
         match drawing.cables.len() {
             0 => damage_lone(random, &mut record),
@@ -255,7 +292,7 @@ fn damage_lone(random: &mut Random, record: &mut Vec<u8>) {
         0 => (0, *random.pick(&[0, 2, 10, 11])),
         1 => (1, random.between(1, 21)),
         2 => (random.between(3, 11), 1),
-        3 => (random.between(12, RECORD - 1), 1),
+        3 => (random.between(12, CRANE_AT - 1), 1),
         _ => return record.truncate(RECORD - 1),
     };
     if let Some(byte) = record.get_mut(place) {
@@ -281,7 +318,8 @@ fn damage_record(random: &mut Random, drawing: &Drawing, record: &mut Vec<u8>) {
         6 => set(cable + 1, drawing.cables[(cable - 12) / 3].a as u8),
         7 => copy_cable(random, record, m),
         8 => set(2 + random.between(n, MOST_DEVICES), random.byte()),
-        9 => set(12 + random.between(3 * m, RECORD - 12), random.byte()),
+        // The last of these is the crane, which is no fault.
+        9 => set(12 + random.between(3 * m, CRANE_AT - 12), random.byte()),
         10 => set(1, (m - 1) as u8),
         _ => set(random.below(RECORD), random.byte()),
     }
@@ -310,11 +348,11 @@ pub fn apart(random: &mut Random) -> Vec<u8> {
         ..*cable
     });
     let cables = left.cables.iter().copied().chain(further).collect();
-    Drawing {
+    let apart = Drawing {
         kinds: [left.kinds.clone(), right.kinds.clone()].concat(),
         cables,
-    }
-    .record()
+    };
+    sheet(random, &apart)
 }
 
 /// Some DFS code of a drawing.

@@ -4,6 +4,7 @@ pub mod answers;
 pub mod book;
 pub mod catalogue;
 pub mod code;
+pub mod cranes;
 pub mod drawing;
 pub mod generate;
 pub mod lone;

@@ -5,12 +5,13 @@
 //! languages call it, and it reads the paper a second time.
 mod calls;
 
-use calls::{refused, Calls};
+use calls::{refused, Calls, Seen};
 use holvreiz_differential::answers::{FIRST, LATER, SECOND};
-use holvreiz_differential::catalogue::ENTRY;
+use holvreiz_differential::catalogue::{each_its_crane, ENTRY};
 use holvreiz_differential::code;
+use holvreiz_differential::cranes;
 use holvreiz_differential::drawing::{self, Drawing, RECORD};
-use holvreiz_differential::generate::{self, Shape};
+use holvreiz_differential::generate::{self, sheet, Shape};
 use holvreiz_differential::lone;
 use holvreiz_differential::pairs;
 use holvreiz_differential::random::Random;
@@ -85,14 +86,18 @@ fn accepted_drawings(calls: &mut Calls, random: &mut Random, drawings: &[Drawing
         for drawn in [drawing, &other] {
             let needed = code::size(drawn);
             let room = room(random, needed);
-            calls.code(&drawn.record(), room);
-            calls.code(&drawn.record(), needed);
+            calls.code(&sheet(random, drawn), room);
+            calls.code(&sheet(random, drawn), needed);
         }
-        calls.same(&drawing.record(), &other.record());
-        calls.same(&drawing.record(), &near.record());
         let device = generate::device(random, drawing);
-        calls.same(&drawing.record(), &device.record());
-        calls.same(&device.record(), &drawing.record());
+        for (first, second) in [
+            (drawing, &other),
+            (drawing, &near),
+            (drawing, &device),
+            (&device, drawing),
+        ] {
+            calls.same(&sheet(random, first), &sheet(random, second));
+        }
         calls.is_least(&code::bytes(&code::least(drawing)));
     }
 }
@@ -101,7 +106,8 @@ fn accepted_drawings(calls: &mut Calls, random: &mut Random, drawings: &[Drawing
 fn damaged_drawings(calls: &mut Calls, random: &mut Random, times: usize) {
     for _ in 0..times {
         let drawing = small(random);
-        let fine = small(random).record();
+        let fine = small(random);
+        let fine = sheet(random, &fine);
         let damaged = match random.below(8) {
             0 => generate::apart(random),
             _ => generate::damaged_record(random, &drawing),
@@ -162,7 +168,7 @@ fn matches(calls: &mut Calls, random: &mut Random, times: usize) {
         let other = generate::neighbour(random, &device);
         for pattern in [&part, &near, &any, &device, &other] {
             let room = room(random, pattern.devices());
-            calls.match_drawing(&pattern.record(), &drawing.record(), room);
+            calls.match_drawing(&sheet(random, pattern), &sheet(random, &drawing), room);
         }
     }
 }
@@ -171,16 +177,15 @@ fn matches(calls: &mut Calls, random: &mut Random, times: usize) {
 fn symmetric_matches(calls: &mut Calls, random: &mut Random, drawings: &[Drawing]) {
     for pattern in drawings {
         let drawing = random.pick(drawings);
-        calls.match_drawing(
-            &pattern.record(),
-            &generate::redrawn(random, drawing).record(),
-            drawing::MOST_DEVICES,
-        );
-        calls.match_drawing(
-            &generate::redrawn(random, pattern).record(),
-            &pattern.record(),
-            drawing::MOST_DEVICES,
-        );
+        let other = generate::redrawn(random, drawing);
+        let again = generate::redrawn(random, pattern);
+        for (pattern, drawing) in [(pattern, &other), (&again, pattern)] {
+            calls.match_drawing(
+                &sheet(random, pattern),
+                &sheet(random, drawing),
+                drawing::MOST_DEVICES,
+            );
+        }
     }
 }
 
@@ -200,15 +205,20 @@ fn largest(calls: &mut Calls, random: &mut Random, times: usize) {
             calls.is_least(&code::bytes(code));
             calls.compare(&code::bytes(code), &code::bytes(&least[..19]));
         }
-        let other = generate::redrawn(random, &drawing).record();
-        calls.match_drawing(&other, &drawing.record(), drawing::MOST_DEVICES + 1);
+        let other = generate::redrawn(random, &drawing);
+        calls.match_drawing(
+            &sheet(random, &other),
+            &sheet(random, &drawing),
+            drawing::MOST_DEVICES + 1,
+        );
     }
 }
 
 mod surveys {
     use super::*;
 
-    /// Large drawings at the largest size limit, 32 of them, kinds up to 255, and more entries than anyone reads.
+    /// Large drawings at the largest size limit, 32 of them, kinds up to 255, and more entries than anyone reads. In all but one survey each
+    /// is its own crane, so that nothing falls below the threshold for that alone.
     pub fn largest(calls: &mut Calls, random: &mut Random) {
         for (drawings, devices, cables, kinds) in [(2, 9, 11, 4), (3, 10, 12, 256), (2, 10, 11, 3)]
         {
@@ -218,16 +228,18 @@ mod surveys {
             }
         }
         let ring = generate::plain(&[0, 1, 2, 3, 4, 5, 6, 7].map(|v| (v, (v + 1) % 8)));
-        calls.catalogue(&[ring.record(), ring.record()].concat(), 2, 8, |needed| {
-            needed
-        });
-        let all_alike = generate::drawing_of(random, 10, 12, 2).record().repeat(32);
-        calls.catalogue(&all_alike, 32, 6, |needed| needed);
+        let two_rings = each_its_crane(&[ring.clone(), ring]);
+        calls.catalogue(&two_rings, 2, 8, |needed| needed);
+        let all_alike = vec![generate::drawing_of(random, 10, 12, 2); 32];
+        calls.catalogue(&each_its_crane(&all_alike), 32, 6, |needed| needed);
+        let sheets = all_alike.iter().zip(0..);
+        let of_eight: Vec<u8> = sheets.flat_map(|(d, number)| d.sheet(number % 8)).collect();
+        calls.catalogue(&of_eight, 8, 6, |needed| needed);
         // No two are alike, which makes over 20,000 entries certain.
         let many: Vec<Drawing> = (0..32)
             .map(|_| generate::drawing_of(random, 10, 20, 16))
             .collect();
-        calls.catalogue(&records(&many), 1, 4, |needed| {
+        calls.catalogue(&each_its_crane(&many), 1, 4, |needed| {
             assert!(20_000 * ENTRY < needed);
             needed + 1
         });
@@ -255,7 +267,7 @@ mod surveys {
                 .collect();
             assert_eq!(kinds.len(), labels);
             for threshold in [1, 2] {
-                calls.catalogue(&records(&survey), threshold, 4, |needed| needed + 1);
+                calls.catalogue(&each_its_crane(&survey), threshold, 4, |needed| needed + 1);
             }
         }
     }
@@ -275,7 +287,7 @@ mod surveys {
             };
             survey.push(next);
         }
-        records(&survey)
+        each_its_crane(&survey)
     }
 
     /// Drawings that have much in common, neighbours of a few, and some lone devices, in any order.
@@ -294,10 +306,6 @@ mod surveys {
         survey
     }
 
-    fn records(survey: &[Drawing]) -> Vec<u8> {
-        survey.iter().flat_map(Drawing::record).collect()
-    }
-
     /// Surveys that are accepted, with enough bytes or too few.
     pub fn accepted(
         calls: &mut Calls,
@@ -309,7 +317,12 @@ mod surveys {
         for _ in 0..times {
             let drawings = random.between(1, most_drawings);
             let survey = survey(random, drawings, shape);
-            let threshold = random.between(1, survey.len() + 1).min(32) as u32;
+            let survey = generate::survey(random, &survey);
+            let most = match random.once_in(2) {
+                true => drawings + 1,
+                false => cranes::different(&cranes::of_drawings(&survey)),
+            };
+            let threshold = random.between(1, most).min(32) as u32;
             let limit = random.between(1, 8) as u32;
             let lent = random.below(8);
             let room = |needed: usize| match lent {
@@ -319,7 +332,67 @@ mod surveys {
                 3 | 4 => needed,
                 _ => needed + 50,
             };
-            calls.catalogue(&records(&survey), threshold, limit, room);
+            calls.catalogue(&survey, threshold, limit, room);
+        }
+    }
+
+    /// Drawings whose cranes repeat in every way: apart, side by side, crane 0 or 255 among others, all one crane. Each threshold is tried, those
+    /// too that enough drawings reach and too few cranes.
+    pub fn repeated_cranes(calls: &mut Calls, random: &mut Random) {
+        for cranes in [
+            &[3, 9, 3][..],
+            &[9, 3, 3],
+            &[0, 5, 0, 5],
+            &[5, 5, 0, 0],
+            &[0, 255, 255, 0, 255],
+            &[1, 33, 65, 129, 1, 33],
+            &[200, 0, 199, 200, 198, 0, 197],
+        ] {
+            let bytes = of_cranes(random, cranes);
+            for threshold in 1..=cranes.len() as u32 {
+                calls.catalogue(&bytes, threshold, 4, |needed| needed + 1);
+            }
+        }
+        for crane in [0, 1, 255] {
+            let bytes = of_cranes(random, &[crane; 32]);
+            for threshold in [1, 2, 32] {
+                calls.catalogue(&bytes, threshold, 3, |needed| needed);
+            }
+        }
+        for different in [2, 3, 8, 16, 31] {
+            let mut cranes: Vec<u8> = (0..32).map(|d| 255 - d % different).collect();
+            random.shuffle(&mut cranes);
+            let bytes = of_cranes(random, &cranes);
+            for threshold in [1, 2, different.into()] {
+                calls.catalogue(&bytes, threshold, 4, |needed| needed);
+            }
+        }
+    }
+
+    /// Drawings that have much in common, as sheets of these cranes.
+    fn of_cranes(random: &mut Random, cranes: &[u8]) -> Vec<u8> {
+        let drawings = survey(random, cranes.len(), SMALL);
+        let sheets = drawings.iter().zip(cranes);
+        sheets.flat_map(|(d, &crane)| d.sheet(crane)).collect()
+    }
+
+    /// Surveys from before drawings had cranes. As they stand each is refused; converted, drawing d as crane d, they have the catalogues that they
+    /// had, of drawings counted one by one.
+    pub fn old(calls: &mut Calls, random: &mut Random, times: usize) {
+        for _ in 0..times {
+            let drawings = random.between(1, 12);
+            let drawings = survey(random, drawings, SMALL);
+            let threshold = random.between(1, drawings.len()) as u32;
+            let limit = random.between(1, 6) as u32;
+            calls.old_catalogue(&drawings, threshold, limit);
+        }
+        for drawings in 1..=32 {
+            let drawings = survey(random, drawings, SMALL);
+            let records = drawings.iter().map(Drawing::record);
+            let old: Vec<u8> = records
+                .flat_map(|r| r[..cranes::OLD_RECORD].to_vec())
+                .collect();
+            calls.catalogue(&old, 1, 4, |needed| needed);
         }
     }
 
@@ -343,7 +416,7 @@ mod surveys {
         let mut record = match random.below(12) {
             0 => generate::damaged_record(random, &drawing),
             1 if random.once_in(4) => generate::apart(random),
-            _ => drawing.record(),
+            _ => sheet(random, &drawing),
         };
         record.resize(RECORD, 0);
         record
@@ -490,17 +563,59 @@ fn lone_outcomes() -> Vec<(&'static str, String)> {
     outcomes
 }
 
-/// Prints how often each outcome occurred; the ones that did not occur often enough.
+/// What is answered beside cranes of every kind.
+fn crane_outcomes() -> Vec<(&'static str, String)> {
+    let mut outcomes = Vec::new();
+    let mut answers = |call: &'static str, answers: &[&str], cranes: &[&str]| {
+        for said in answers {
+            outcomes.extend(cranes.iter().map(|near| (call, format!("{said}{near}"))));
+        }
+    };
+    let of_a_drawing = [cranes::CRANE_0, cranes::CRANE_BETWEEN, cranes::CRANE_255];
+    let of_a_survey = [
+        cranes::EACH_ITS_OWN,
+        cranes::ONE_CRANE,
+        cranes::SIDE_BY_SIDE,
+        cranes::SCATTERED,
+        cranes::AMONG_OTHERS,
+        cranes::GREATEST,
+    ];
+    answers("code", &["written"], &of_a_drawing);
+    answers("decode", &["written"], &[cranes::OVERWRITTEN]);
+    answers("decode", &[&refused(15, FIRST)], &[cranes::SHORT_OF_CRANE]);
+    for (call, said) in [("match", ["map", "not contained"]), ("same", ["yes", "no"])] {
+        answers(call, &said, &[cranes::ALIKE, cranes::DIFFER]);
+        for whose in [FIRST, SECOND] {
+            answers(call, &[&refused(1, whose)], &[cranes::OLD]);
+        }
+    }
+    answers("catalogue", &["entries", "no entry"], &of_a_survey);
+    answers("catalogue", &["no entry"], &[cranes::TOO_FEW]);
+    for call in ["code", "catalogue"] {
+        answers(call, &[&refused(1, FIRST)], &[cranes::OLD]);
+    }
+    outcomes
+}
+
+/// Prints how often each outcome occurred, and each beside cranes of which there is something to tell; the ones that did not occur often
+/// enough.
 fn report(calls: &Calls) -> Vec<(&'static str, String)> {
     let mut total = 0;
     for ((call, outcome), times) in calls.seen() {
         println!("{call:10} {outcome:46} {times:7}");
         total += times;
     }
+    println!("of these beside cranes:");
+    for ((call, outcome), times) in calls.seen_beside_cranes() {
+        println!("{call:10} {outcome:46} {times:7}");
+    }
     println!("{total} calls, each as expected");
-    outcomes()
-        .into_iter()
-        .filter(|outcome| calls.seen().get(outcome).copied().unwrap_or(0) < TIMES)
+    let rare = |seen: &Seen, outcome: &_| seen.get(outcome).copied().unwrap_or(0) < TIMES;
+    let outcomes = outcomes().into_iter();
+    let beside_cranes = crane_outcomes().into_iter();
+    outcomes
+        .filter(|outcome| rare(calls.seen(), outcome))
+        .chain(beside_cranes.filter(|outcome| rare(calls.seen_beside_cranes(), outcome)))
         .collect()
 }
 
@@ -528,6 +643,8 @@ fn run(calls: &mut Calls, seed: u64) {
     surveys::damaged(calls, random, 3000);
     surveys::largest(calls, random);
     surveys::label_counts(calls, random);
+    surveys::repeated_cranes(calls, random);
+    surveys::old(calls, random, 100);
 }
 
 fn main() -> ExitCode {

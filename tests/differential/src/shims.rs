@@ -1,8 +1,11 @@
 //! Tests of the tests: libraries that each spoil one kind of answer, in one byte, a count, a refusal or its drawing. A shim takes what the
 //! library returned and wrote, and changes it where its kind of answer is given; the comparison has to notice every one of them.
+use crate::answers;
 use crate::book;
-use crate::catalogue;
-use crate::drawing::RECORD;
+use crate::catalogue::{self, Codes, Entry};
+use crate::code;
+use crate::cranes::{self, OLD_RECORD};
+use crate::drawing::{CRANE_AT, RECORD};
 
 /// A call with what it was given. Of two drawings or codes `first` is the first; `settings` are the threshold and the size limit of a
 /// catalogue, the kinds of devices, the kinds of cables and the size limit of a book.
@@ -70,6 +73,34 @@ impl Came<'_> {
         self.list(&entries);
     }
 
+    /// Answers with the catalogue that other counts give: what is held against the threshold, and what is written as the support.
+    fn list_counted(&mut self, given: &Given, held: Count, written: Count) {
+        let (true, &[threshold, limit]) = (self.answered(), given.settings) else {
+            return;
+        };
+        let sheets = catalogue::read_survey(given.first).expect("an accepted survey");
+        let cranes = cranes::of_drawings(given.first);
+        let containing = Codes::default().containing(&sheets, limit as usize);
+        let mut entries: Vec<Entry> = containing
+            .into_iter()
+            .filter(|(_, drawings)| held(drawings, &cranes) >= threshold as usize)
+            .map(|(code, drawings)| Entry {
+                code,
+                support: written(&drawings, &cranes),
+            })
+            .collect();
+        entries.sort_by(|a, b| code::order(&a.code, &b.code));
+        let bytes = catalogue::bytes(&entries);
+        let entries: Vec<Vec<u8>> = bytes.chunks(42).map(<[u8]>::to_vec).collect();
+        self.list(&entries);
+    }
+
+    /// Refuses what was answered.
+    fn refuse(&mut self, number: u8, drawing: usize) {
+        *self.returned = (drawing as u64 * 256 + u64::from(number)) << 32;
+        self.output.copy_from_slice(self.lent);
+    }
+
     /// Changes the byte at a place of the output, if it is there.
     fn spoil(&mut self, at: usize) {
         if let Some(byte) = self.output.get_mut(at) {
@@ -98,6 +129,59 @@ impl Came<'_> {
 }
 
 type Spoil = fn(&Given, &mut Came);
+
+/// A count of the drawings that contain a pattern, in a survey of these cranes.
+type Count = fn(&[usize], &[u8]) -> usize;
+
+fn drawings(drawings: &[usize], _: &[u8]) -> usize {
+    drawings.len()
+}
+
+fn cranes_of(drawings: &[usize], cranes: &[u8]) -> Vec<u8> {
+    drawings.iter().map(|&d| cranes[d]).collect()
+}
+
+fn different(drawings: &[usize], cranes: &[u8]) -> usize {
+    cranes::different(&cranes_of(drawings, cranes))
+}
+
+/// The different cranes, told apart by a part of their number.
+fn different_by(drawings: &[usize], cranes: &[u8], part: u8) -> usize {
+    let parts: Vec<u8> = cranes.iter().map(|crane| crane & part).collect();
+    different(drawings, &parts)
+}
+
+/// The different cranes, but for one that is passed over.
+fn different_without(drawings: &[usize], cranes: &[u8], without: u8) -> usize {
+    let cranes = cranes_of(drawings, cranes);
+    cranes::different(&cranes) - usize::from(cranes.contains(&without))
+}
+
+/// The cranes that are not that of the drawing before.
+fn changes(drawings: &[usize], cranes: &[u8]) -> usize {
+    let mut cranes = cranes_of(drawings, cranes);
+    cranes.dedup();
+    cranes.len()
+}
+
+/// The drawings whose crane has no later sheet, whether that contains the pattern or not.
+fn last_sheets(drawings: &[usize], cranes: &[u8]) -> usize {
+    let is_last = |&&d: &&usize| !cranes[d + 1..].contains(&cranes[d]);
+    drawings.iter().filter(is_last).count()
+}
+
+/// The drawings of whose crane the next sheet does not contain the pattern, though one after it may.
+fn before_next_sheets(drawings: &[usize], cranes: &[u8]) -> usize {
+    let next = |d: usize| (d + 1..cranes.len()).find(|&e| cranes[e] == cranes[d]);
+    let is_last = |&&d: &&usize| next(d).is_none_or(|e| !drawings.contains(&e));
+    drawings.iter().filter(is_last).count()
+}
+
+/// The different cranes, with the last of 32 drawings as one more.
+fn last_apart(drawings: &[usize], cranes: &[u8]) -> usize {
+    let others: Vec<usize> = drawings.iter().copied().filter(|&d| d != 31).collect();
+    different(&others, cranes) + usize::from(drawings.contains(&31))
+}
 
 fn devices(drawing: &[u8]) -> u8 {
     drawing.first().copied().unwrap_or(0)
@@ -219,6 +303,18 @@ pub const SHIMS: &[(&str, &str, Spoil)] = &[
         "6 of the first and the last of 20 cables",
         |given, came| spoil_pair(given, came, |places, _| places == [0, 19]),
     ),
+    ("code", "7 for a crane that is not 0", |given, came| {
+        if came.answered() && given.first[CRANE_AT] != 0 {
+            came.refuse(7, 0);
+        }
+    }),
+    ("code", "drawings without a crane taken", |given, came| {
+        if came.refusal() == 1 && given.first.len() == OLD_RECORD {
+            let answer = answers::code(&[given.first, &[0]].concat(), came.lent);
+            came.output.copy_from_slice(&answer.output);
+            *came.returned = u64::from(answer.refused.number) << 32 | answer.count as u64;
+        }
+    }),
     ("decode", "the kind of a tenth device", |_, came| {
         if came.answered() && came.output.first() == Some(&10) {
             came.spoil(11);
@@ -237,6 +333,28 @@ pub const SHIMS: &[(&str, &str, Spoil)] = &[
     ("decode", "the byte behind the drawing", |_, came| {
         came.spoil_behind(1)
     }),
+    ("decode", "the crane left as it was", |_, came| {
+        if came.answered() {
+            came.output[CRANE_AT] = came.lent[CRANE_AT];
+        }
+    }),
+    ("decode", "drawings without a crane written", |_, came| {
+        if came.answered() {
+            came.output[CRANE_AT] = came.lent[CRANE_AT];
+            *came.returned = OLD_RECORD as u64;
+        }
+    }),
+    (
+        "decode",
+        "no 15 where only the crane lacks",
+        |given, came| {
+            if came.refusal() == 15 && came.lent.len() == OLD_RECORD {
+                let answer = answers::decode(given.first, &[0; RECORD]);
+                came.output.copy_from_slice(&answer.output[..OLD_RECORD]);
+                *came.returned = OLD_RECORD as u64;
+            }
+        },
+    ),
     ("decode", "11 told as 10", |_, came| {
         if came.refusal() == 11 {
             came.set_refusal(10);
@@ -347,6 +465,31 @@ pub const SHIMS: &[(&str, &str, Spoil)] = &[
     ("match", "6 told as 5", |_, came| {
         if came.refusal() == 6 {
             came.set_refusal(5);
+        }
+    }),
+    ("match", "7 for a crane of the second", |given, came| {
+        if came.answered() && given.second[CRANE_AT] != 0 {
+            came.refuse(7, 0);
+        }
+    }),
+    (
+        "match",
+        "not contained where the cranes differ",
+        |given, came| {
+            if came.answered() && given.first[CRANE_AT] != given.second[CRANE_AT] {
+                came.output.copy_from_slice(came.lent);
+                *came.returned = 0;
+            }
+        },
+    ),
+    ("same", "no where the cranes differ", |given, came| {
+        if came.answered() && given.first[CRANE_AT] != given.second[CRANE_AT] {
+            *came.returned = 0;
+        }
+    }),
+    ("same", "7 for a crane that is not 0", |given, came| {
+        if came.answered() && given.first[CRANE_AT] != 0 {
+            came.refuse(7, 0);
         }
     }),
     ("same", "drawings of ten devices", |given, came| {
@@ -486,8 +629,7 @@ pub const SHIMS: &[(&str, &str, Spoil)] = &[
                 let at_fault =
                     (1..drawings.len()).find(|&at| cables(drawings[at]) > 0 && first_alike(at));
                 if let Some(at) = at_fault {
-                    *came.returned = (at as u64 * 256 + 6) << 32;
-                    came.output.copy_from_slice(came.lent);
+                    came.refuse(6, at);
                 }
             }
         },
@@ -509,6 +651,100 @@ pub const SHIMS: &[(&str, &str, Spoil)] = &[
                     .take(count)
                     .filter(|entry| entry[0] == 8)
                     .count() as u64;
+            }
+        },
+    ),
+    (
+        "catalogue",
+        "drawings counted instead of cranes",
+        |given, came| came.list_counted(given, drawings, drawings),
+    ),
+    (
+        "catalogue",
+        "supports that are numbers of drawings",
+        |given, came| came.list_counted(given, different, drawings),
+    ),
+    (
+        "catalogue",
+        "the threshold held against drawings",
+        |given, came| came.list_counted(given, drawings, different),
+    ),
+    (
+        "catalogue",
+        "equal cranes merged only where side by side",
+        |given, came| came.list_counted(given, changes, changes),
+    ),
+    (
+        "catalogue",
+        "a crane counted by its last sheet alone",
+        |given, came| came.list_counted(given, last_sheets, last_sheets),
+    ),
+    (
+        "catalogue",
+        "a sheet merged only with the next of its crane",
+        |given, came| came.list_counted(given, before_next_sheets, before_next_sheets),
+    ),
+    (
+        "catalogue",
+        "the last of 32 drawings counted as a crane of its own",
+        |given, came| came.list_counted(given, last_apart, last_apart),
+    ),
+    ("catalogue", "crane 0 not counted", |given, came| {
+        let count: Count = |drawings, cranes| different_without(drawings, cranes, 0);
+        came.list_counted(given, count, count)
+    }),
+    ("catalogue", "crane 255 not counted", |given, came| {
+        let count: Count = |drawings, cranes| different_without(drawings, cranes, 255);
+        came.list_counted(given, count, count)
+    }),
+    (
+        "catalogue",
+        "cranes told apart by their low five bits",
+        |given, came| {
+            let count: Count = |drawings, cranes| different_by(drawings, cranes, 31);
+            came.list_counted(given, count, count)
+        },
+    ),
+    (
+        "catalogue",
+        "cranes told apart by their low seven bits",
+        |given, came| {
+            let count: Count = |drawings, cranes| different_by(drawings, cranes, 127);
+            came.list_counted(given, count, count)
+        },
+    ),
+    (
+        "catalogue",
+        "supports that are all cranes of the survey",
+        |given, came| {
+            if came.answered() {
+                let all = cranes::different(&cranes::of_drawings(given.first));
+                let count = came.count();
+                for entry in came.output.chunks_mut(42).take(count) {
+                    entry[1] = all as u8;
+                }
+            }
+        },
+    ),
+    ("catalogue", "7 for a crane that is not 0", |given, came| {
+        let mut cranes = cranes::of_drawings(given.first).into_iter();
+        let at_fault = cranes.position(|crane| crane != 0);
+        if let (true, Some(drawing)) = (came.answered(), at_fault) {
+            came.refuse(7, drawing);
+        }
+    }),
+    ("catalogue", "12 for more than the cranes", |given, came| {
+        let most = cranes::different(&cranes::of_drawings(given.first)) as u32;
+        if came.answered() && most < given.settings[0] {
+            came.refuse(12, 0);
+        }
+    }),
+    (
+        "catalogue",
+        "no 1 for drawings without cranes",
+        |given, came| {
+            if came.refusal() == 1 && given.first.len() % OLD_RECORD == 0 {
+                *came.returned = 0;
             }
         },
     ),

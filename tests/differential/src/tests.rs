@@ -1,11 +1,15 @@
 //! The other implementation by itself, on the drawings that the paper works out.
-use crate::catalogue::{self, Codes, Entry};
+use crate::catalogue::{self, each_its_crane, Codes, Entry, Sheet};
 use crate::code::{self, Code, Record};
-use crate::drawing::{Cable, Drawing};
-use crate::generate::plain;
+use crate::cranes::OLD_RECORD;
+use crate::drawing::{Cable, Drawing, CRANE_AT, RECORD};
+use crate::generate::{self, plain, Shape};
 use crate::map;
 use crate::pairs;
+use crate::random::Random;
 use std::cmp::Ordering;
+use std::collections::BTreeSet;
+use std::{fs, path::Path};
 
 const PATH: &[(usize, usize)] = &[(0, 1), (1, 2)];
 const TRIANGLE: &[(usize, usize)] = &[(0, 1), (1, 2), (2, 0)];
@@ -109,9 +113,22 @@ fn maps_of_the_paper() {
     assert_eq!(map::least_map(&plain(TRIANGLE), &plain(PATH)), None);
 }
 
+/// D3 and D4 as sheets of these cranes.
+fn d12(cranes: [u8; 2]) -> Vec<Sheet> {
+    let sheet = |(pairs, crane)| Sheet {
+        drawing: plain(pairs),
+        crane,
+    };
+    [PATH, TRIANGLE]
+        .into_iter()
+        .zip(cranes)
+        .map(sheet)
+        .collect()
+}
+
 #[test]
 fn the_catalogue_of_the_paper() {
-    let survey = [plain(PATH), plain(TRIANGLE)];
+    let survey = d12([0, 1]);
     let entries: Vec<Entry> = [(&PATH[..1], 2), (PATH, 2), (TRIANGLE, 1)]
         .map(|(pairs, support)| Entry {
             code: plain_code(pairs),
@@ -128,7 +145,7 @@ fn the_catalogue_of_the_paper() {
 
 #[test]
 fn surveys_that_are_refused() {
-    let survey = [plain(PATH).record(), plain(TRIANGLE).record()].concat();
+    let survey = each_its_crane(&[plain(PATH), plain(TRIANGLE)]);
     let refusal = |survey: &[u8], s: u32, l: u32| {
         catalogue::read(survey, s, l)
             .err()
@@ -141,15 +158,103 @@ fn surveys_that_are_refused() {
     assert_eq!(refusal(&[], 1, 1), Some((14, 0)));
     assert_eq!(refusal(&survey.repeat(17), 1, 1), Some((14, 0)));
     assert_eq!(
-        refusal(&[&survey[..], &[11; 72]].concat(), 1, 1),
+        refusal(&[&survey[..], &[11; RECORD]].concat(), 1, 1),
         Some((2, 2))
     );
+    for drawings in 1..=32 {
+        let old = vec![0; drawings * OLD_RECORD];
+        assert_eq!(refusal(&old, 1, 1), Some((1, 0)));
+    }
+}
+
+/// Request R-4: D3 and D4 as two cranes, whichever they are, and as one.
+#[test]
+fn the_catalogue_of_one_crane() {
+    let supports = |cranes, threshold| {
+        let entries = Codes::default().catalogue(&d12(cranes), threshold, 4);
+        let supports = entries.iter().map(|entry| entry.support);
+        supports.collect::<Vec<_>>()
+    };
+    for cranes in [[0, 1], [1, 0], [0, 255], [255, 7]] {
+        assert_eq!(supports(cranes, 1), [2, 2, 1]);
+        assert_eq!(supports(cranes, 2), [2, 2]);
+    }
+    for crane in [0, 7, 255] {
+        assert_eq!(supports([crane, crane], 1), [1, 1, 1]);
+        assert_eq!(supports([crane, crane], 2), []);
+    }
+}
+
+/// Drawings with much in common.
+fn alike(random: &mut Random, drawings: usize) -> Vec<Drawing> {
+    let shape = Shape {
+        devices: (2, 5),
+        most_cables: 6,
+        kinds: 2,
+    };
+    let first = generate::drawing(random, shape);
+    let near = |random: &mut Random| {
+        let near = generate::neighbour(random, &first);
+        generate::redrawn(random, &near)
+    };
+    (0..drawings).map(|_| near(random)).collect()
+}
+
+/// Each support is the number of cranes by the search for maps too, and a pattern that reaches the threshold is listed.
+#[test]
+fn supports_by_maps() {
+    let random = &mut Random::new(73);
+    for threshold in [1, 1, 2, 2, 3, 3, 4, 4] {
+        let drawings = alike(random, 8);
+        let survey = generate::survey(random, &drawings);
+        let sheets = catalogue::read_survey(&survey).expect("accepted");
+        let cranes = |entry: &Entry| {
+            let pattern = code::described(&entry.code);
+            let has = |sheet: &&Sheet| map::least_map(&pattern, &sheet.drawing).is_some();
+            let cranes: BTreeSet<u8> = sheets.iter().filter(has).map(|s| s.crane).collect();
+            cranes.len()
+        };
+        let entries = Codes::default().catalogue(&sheets, threshold, 4);
+        for entry in &entries {
+            assert_eq!(entry.support, cranes(entry));
+        }
+        let all = Codes::default().catalogue_of_drawings(&drawings, 1, 4);
+        let enough = all.iter().filter(|entry| cranes(entry) >= threshold);
+        assert_eq!(entries.len(), enough.count());
+    }
+}
+
+/// Drawing d as crane d: the catalogue of drawings counted one by one.
+#[test]
+fn old_surveys_keep_their_catalogues() {
+    let random = &mut Random::new(72);
+    for threshold in [1, 2, 3, 7] {
+        let drawings = alike(random, 7);
+        let sheets = catalogue::read_survey(&each_its_crane(&drawings)).expect("accepted");
+        let codes = &mut Codes::default();
+        let old = codes.catalogue_of_drawings(&drawings, threshold, 4);
+        assert_eq!(codes.catalogue(&sheets, threshold, 4), old);
+    }
+}
+
+#[test]
+fn the_crane_is_no_part_of_a_drawing() {
+    let path = plain(PATH);
+    for crane in 0..=255 {
+        let sheet = path.sheet(crane);
+        assert_eq!((sheet.len(), sheet[CRANE_AT]), (RECORD, crane));
+        assert_eq!(Drawing::read(&sheet), Ok(path.clone()));
+    }
+    let mut unused = path.sheet(0);
+    unused[CRANE_AT - 1] = 1;
+    assert_eq!(Drawing::read(&unused), Err(7));
+    assert_eq!(Drawing::read(&path.record()[..OLD_RECORD]), Err(1));
 }
 
 /// The text of the other implementation's usual catalogue.
 fn usual_text(survey: &[u8]) -> String {
-    let drawings = catalogue::read(survey, 2, 4).ok().expect("accepted");
-    catalogue::text(&Codes::default().catalogue(&drawings, 2, 4))
+    let sheets = catalogue::read(survey, 2, 4).ok().expect("accepted");
+    catalogue::text(&Codes::default().catalogue(&sheets, 2, 4))
 }
 
 /// The example that ships.
@@ -159,24 +264,57 @@ fn the_catalogue_of_the_cranes() {
     assert_eq!(text, include_str!("../../../examples/cranes.catalogue"));
 }
 
+/// The old survey that ships: its drawings without cranes, counted one by one.
+#[test]
+fn the_catalogue_of_the_old_survey() {
+    let survey = include_bytes!("../../../examples/old.survey");
+    let records = survey.chunks(OLD_RECORD);
+    let drawing = |record: &[u8]| Drawing::read(&[record, &[0]].concat()).expect("accepted");
+    let drawings: Vec<Drawing> = records.map(drawing).collect();
+    let entries = Codes::default().catalogue_of_drawings(&drawings, 2, 4);
+    let text = catalogue::text(&entries);
+    assert_eq!(text, include_str!("../../../examples/old.catalogue"));
+    assert_eq!(text, usual_text(&each_its_crane(&drawings)));
+}
+
+/// What the program reads at most, and the most entries that it has room for.
+const READ: usize = 33 * RECORD;
+const ROOM: usize = 1560;
+
+/// What the program has to print of its input.
+fn printed(input: &[u8]) -> String {
+    let survey = &input[..input.len().min(READ)];
+    match Codes::default().of_survey(survey, 2, 4) {
+        Err(refused) if (2..=8).contains(&refused.number) => {
+            format!("refused {} drawing {}\n", refused.number, refused.at)
+        }
+        Err(refused) => format!("refused {}\n", refused.number),
+        Ok(entries) if entries.len() > ROOM => "refused 15\n".to_string(),
+        Ok(entries) => catalogue::text(&entries),
+    }
+}
+
+/// What is stored as the program's text is what the other implementation expects.
+#[test]
+fn every_case_of_the_program() {
+    let cases = Path::new(env!("CARGO_MANIFEST_DIR")).join("../program/cases");
+    let files = fs::read_dir(cases).expect("the folder");
+    let inputs = files.map(|file| file.expect("a file").path());
+    let mut tried = 0;
+    for input in inputs.filter(|path| path.extension().is_some_and(|end| end == "in")) {
+        let bytes = fs::read(&input).expect("the input");
+        let stored = fs::read_to_string(input.with_extension("out")).expect("the text");
+        assert!(printed(&bytes) == stored, "{}", input.display());
+        tried += 1;
+    }
+    assert!(tried > 0);
+}
+
 /// As many patterns as the program has room for.
 #[test]
 fn the_most_patterns() {
-    let text = usual_text(include_bytes!("../../program/cases/most_patterns.in"));
-    assert!(text == include_str!("../../program/cases/most_patterns.out"));
+    let text = include_str!("../../program/cases/most_patterns.out");
     assert!(text.ends_with("\n1560 patterns\n"));
-}
-
-/// Lone devices add no entry.
-#[test]
-fn surveys_with_lone_devices() {
-    let text = usual_text(include_bytes!("../../program/cases/lone_among_others.in"));
-    assert_eq!(
-        text,
-        include_str!("../../program/cases/lone_among_others.out")
-    );
-    let text = usual_text(include_bytes!("../../program/cases/lone_alone.in"));
-    assert_eq!(text, include_str!("../../program/cases/lone_alone.out"));
 }
 
 #[test]

@@ -2,6 +2,7 @@
 //! paper or a published example says of a call stands with it and is asserted.
 mod book;
 mod checks;
+mod cranes;
 mod drawings;
 mod edges;
 mod large;
@@ -15,7 +16,9 @@ mod tests;
 use crate::answers::{self, Answer};
 use crate::book::of_settings;
 use crate::catalogue::{Codes, ENTRY};
+use crate::cranes::told;
 use crate::lone::{near, NONE};
+use crate::shims::Given;
 use std::collections::BTreeSet;
 
 /// What every lent byte holds before a call.
@@ -141,10 +144,12 @@ pub struct List {
     text: String,
     codes: Codes,
     seen: BTreeSet<(&'static str, Seen)>,
+    beside_cranes: BTreeSet<(&'static str, Seen)>,
+    fetches: Vec<(Vec<u8>, usize)>,
 }
 
 /// What a call may answer: something in a word, or a refusal and, if it is not the only or the first one's, whose; and what is lone
-/// about that which it comes from.
+/// about that which it comes from, or what there is to tell of cranes.
 #[derive(Clone, Copy, Debug, PartialEq, Eq, PartialOrd, Ord)]
 enum Seen {
     Answer(&'static str, &'static str),
@@ -152,10 +157,10 @@ enum Seen {
 }
 
 impl Seen {
-    fn of(answer: &Answer, lone: &'static str) -> Self {
+    fn of(answer: &Answer, near: &'static str) -> Self {
         match answer.refused.number {
-            0 => Seen::Answer(answer.said, lone),
-            number => Seen::Refusal(number, answer.said, lone),
+            0 => Seen::Answer(answer.said, near),
+            number => Seen::Refusal(number, answer.said, near),
         }
     }
 }
@@ -230,15 +235,33 @@ impl List {
     fn put(&mut self, name: &str, call: Call) -> Answer {
         let parts = call.parts();
         let name = format!("{name}, {}:", parts.word);
-        let answer = call.answer(&mut self.codes, &vec![LENT; parts.lent.unwrap_or(0)]);
-        let lone = near(parts.word, parts.first, parts.second, &answer);
-        self.seen.insert((parts.word, Seen::of(&answer, lone)));
+        let lent = vec![LENT; parts.lent.unwrap_or(0)];
+        let answer = call.answer(&mut self.codes, &lent);
+        self.note(parts.word, &parts, &lent, &answer);
         self.put_parts(&name, &parts);
         self.put_line(&name, &answer);
         if parts.lent.is_some() {
             self.put_bytes(&answer.output);
         }
         answer
+    }
+
+    /// Notes what a call answered.
+    fn note(&mut self, call: &'static str, parts: &Parts, lent: &[u8], answer: &Answer) {
+        let given = Given {
+            call,
+            first: parts.first,
+            second: parts.second,
+            settings: &[parts.threshold.into(), parts.limit.into()],
+        };
+        let lone = match call {
+            "open" | "fetch" => NONE,
+            _ => near(call, parts.first, parts.second, answer),
+        };
+        self.seen.insert((call, Seen::of(answer, lone)));
+        for told in told(&given, lent, answer) {
+            self.beside_cranes.insert((call, Seen::of(answer, told)));
+        }
     }
 
     /// Adds the opening of a survey and three fetches from it.
@@ -254,8 +277,9 @@ impl List {
         self.text += &name;
         for d in numbers {
             let (opened, fetched) = (answers::open(survey), answers::fetch(survey, d.into()));
-            self.seen.insert(("open", Seen::of(&opened, NONE)));
-            self.seen.insert(("fetch", Seen::of(&fetched, NONE)));
+            self.note("open", &parts, &[], &opened);
+            self.note("fetch", &parts, &[], &fetched);
+            self.fetches.push((survey.to_vec(), d.into()));
             self.put_line(" opened", &opened);
             self.put_line(" fetched", &fetched);
             self.put_bytes(&fetched.output);
@@ -273,6 +297,7 @@ pub fn list() -> List {
     large::put(&mut list);
     book::put(&mut list);
     pairs::put(&mut list);
+    cranes::put(&mut list);
     list.put_cut();
     list
 }

@@ -148,7 +148,7 @@ fn patterns_by_the_other_ways() {
     for (at, one) in patterns.iter().enumerate() {
         assert!(!patterns[..at].iter().any(|other| map::same(one, other)));
     }
-    let found = Codes::default().catalogue(&patterns, 1, 3);
+    let found = Codes::default().catalogue_of_drawings(&patterns, 1, 3);
     let found: Vec<Code> = found.into_iter().map(|entry| entry.code).collect();
     assert_eq!(found, codes(2, 2, 3));
 }

@@ -1,6 +1,6 @@
 //! The paper's drawings to try, D1 to D12, with what it says of them.
 use super::checks::Asked;
-use super::notation::{code, drawing, map};
+use super::notation::{code, drawing, map, survey};
 use super::{Call, List};
 
 /// Name, device kinds, cables, least code.
@@ -48,7 +48,7 @@ pub fn put(list: &mut List) {
     );
     list.put_same("D3 and D4", &d3, &d4, false);
 
-    let survey = [d3, d4].concat();
+    let survey = survey(&[&d3, &d4]);
     let d12 = Asked {
         survey: &survey,
         threshold: 1,

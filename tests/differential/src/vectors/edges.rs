@@ -1,8 +1,9 @@
 //! The edges: each refusal from 1 to 15 in each call that can give it and in each place, what is checked before what, and lent
 //! output that is one byte short and just enough.
 use super::checks::Asked;
-use super::notation::{code, drawing};
+use super::notation::{code, drawing, survey};
 use super::{Call, List};
+use crate::drawing::RECORD;
 use crate::refused::Refused;
 
 /// D3 with another byte at one place.
@@ -56,12 +57,12 @@ fn refused_first() -> Vec<Refusal> {
 }
 
 fn put_drawings(list: &mut List, fine: &[u8]) {
-    for length in [0, 71] {
+    for length in [0, RECORD - 1] {
         let name = format!("drawing of {length} bytes");
         list.put_refused_drawing(&name, &fine[..length], fine, 1);
     }
     let longer = [fine, &[0]].concat();
-    list.put("drawing of 73 bytes", Call::CheckDrawing(&longer));
+    list.put("drawing of 74 bytes", Call::CheckDrawing(&longer));
     for (name, record, number) in refused_drawings() {
         list.put_refused_drawing(name, &record, fine, number);
         list.put_refused_in_survey(name, &record, fine, number);
@@ -182,15 +183,15 @@ fn put_surveys(list: &mut List, fine: &[u8]) {
     let most = fine.repeat(33);
     for (name, length, number) in [
         ("survey of 0", 0, 14),
-        ("survey of 33", 33 * 72, 14),
-        ("survey of 71 bytes", 71, 1),
-        ("survey of 73 bytes", 73, 1),
+        ("survey of 33", 33 * RECORD, 14),
+        ("survey of 72 bytes", RECORD - 1, 1),
+        ("survey of 74 bytes", RECORD + 1, 1),
     ] {
         list.put_refused_survey(name, &most[..length], Refused::of(number));
         list.put_fetches(name, &most[..length], [0, 1, 33]);
     }
     // Opening looks at the length alone, so drawings that are no drawings are fetched too.
-    let any: Vec<u8> = (0..3 * 72).map(|i| i as u8).collect();
+    let any: Vec<u8> = (0..3 * RECORD).map(|i| i as u8).collect();
     list.put_fetches("survey of three, no drawing", &any, [2, 0, 3]);
     list.put_fetches("survey of one", fine, [0, 1, 65535]);
 }
@@ -200,7 +201,7 @@ fn put_lent(list: &mut List) {
     let d5 = drawing("1111", "015 125 205 235");
     let (d3, d4) = (drawing("111", "015 125"), drawing("111", "015 125 205"));
     let least = code("01151 12151 20151");
-    let survey = [&d3[..], &d4].concat();
+    let d12 = survey(&[&d3, &d4]);
     let refused = |short: usize, lent: usize| if lent < short { 15 } else { 0 };
     for lent in [19, 20] {
         let answer = list.put(
@@ -209,12 +210,12 @@ fn put_lent(list: &mut List) {
         );
         assert_eq!(answer.refused.number, refused(20, lent));
     }
-    for lent in [71, 72] {
+    for lent in [RECORD - 1, RECORD] {
         let answer = list.put(
             &format!("D4, {lent} bytes lent"),
             Call::Decode(&least, lent),
         );
-        assert_eq!(answer.refused.number, refused(72, lent));
+        assert_eq!(answer.refused.number, refused(RECORD, lent));
     }
     // The room for a map is checked before the search.
     for lent in [2, 3] {
@@ -227,26 +228,26 @@ fn put_lent(list: &mut List) {
         }
     }
     for lent in [0, 42, 125, 126] {
-        let call = Call::WriteCatalogue(&survey, 1, 4, lent);
+        let call = Call::WriteCatalogue(&d12, 1, 4, lent);
         let answer = list.put(&format!("D12, {lent} bytes lent"), call);
         assert_eq!(answer.refused.number, refused(126, lent));
     }
     for lent in [83, 84] {
         let answer = list.put(
             &format!("D12, {lent} bytes lent"),
-            Call::UsualCatalogue(&survey, lent),
+            Call::UsualCatalogue(&d12, lent),
         );
         assert_eq!(answer.refused.number, refused(84, lent));
     }
     // The usual catalogue ends at four cables, though there is room for a fifth entry.
-    let path = drawing("111111", "015 125 235 345 455").repeat(2);
+    let path = drawing("111111", "015 125 235 345 455");
     let usual = list.put(
         "path of 5 cables twice",
-        Call::UsualCatalogue(&path, 5 * 42),
+        Call::UsualCatalogue(&survey(&[&path, &path]), 5 * 42),
     );
     assert_eq!((usual.refused.number, usual.count), (0, 4));
     // Nothing is frequent, so no room is too little.
-    let none = list.put("D12, no entry", Call::WriteCatalogue(&survey, 3, 8, 0));
+    let none = list.put("D12, no entry", Call::WriteCatalogue(&d12, 3, 8, 0));
     assert_eq!((none.refused.number, none.count), (0, 0));
     let none = list.put("D3 alone", Call::UsualCatalogue(&d3, 3));
     assert_eq!((none.refused.number, none.count), (0, 0));

@@ -1,8 +1,9 @@
 //! As large as drawings and surveys get: ten devices and twenty cables, kinds up to 255, thirty-two drawings.
 use super::checks::Asked;
 use super::{Call, List};
+use crate::catalogue::each_its_crane;
 use crate::code;
-use crate::drawing::{Cable, Drawing};
+use crate::drawing::{Cable, Drawing, RECORD};
 use crate::generate::{self, plain, Shape};
 use crate::random::Random;
 
@@ -80,7 +81,7 @@ fn survey(random: &mut Random, first: Drawing, drawings: usize) -> Vec<u8> {
         let next = generate::neighbour(random, &last);
         survey.push(generate::redrawn(random, &next));
     }
-    survey.iter().flat_map(Drawing::record).collect()
+    each_its_crane(&survey)
 }
 
 pub fn put(list: &mut List) {
@@ -92,7 +93,7 @@ pub fn put(list: &mut List) {
     put_drawing(list, random, "some kinds", &some_kinds);
     put_drawing(list, random, "kinds up to 255", &high_kinds);
 
-    put_ten_devices(list, random, &[&one_kind, &some_kinds, &high_kinds]);
+    put_ten_devices(list, random, &[one_kind, some_kinds, high_kinds]);
     put_thirty_two(list, random);
     put_many_embeddings(list, random);
 }
@@ -105,10 +106,10 @@ fn asked(survey: &[u8], threshold: u16, limit: u16) -> Asked<'_> {
     }
 }
 
-fn put_ten_devices(list: &mut List, random: &mut Random, drawings: &[&Drawing]) {
-    let all: Vec<u8> = drawings.iter().flat_map(|d| d.record()).collect();
+fn put_ten_devices(list: &mut List, random: &mut Random, drawings: &[Drawing]) {
+    let all = each_its_crane(drawings);
     list.put_catalogue("ten devices, s 1, L 2", &asked(&all, 1, 2));
-    list.put_catalogue("one kind, s 1, L 6", &asked(&all[..72], 1, 6));
+    list.put_catalogue("one kind, s 1, L 6", &asked(&all[..RECORD], 1, 6));
     let near = survey(random, drawings[1].clone(), 4);
     list.put_catalogue("ten devices that are near, s 4, L 3", &asked(&near, 4, 3));
 }
@@ -116,12 +117,16 @@ fn put_ten_devices(list: &mut List, random: &mut Random, drawings: &[&Drawing]) 
 /// Of one kind: patterns have more embeddings in these drawings than there is room to list.
 fn put_many_embeddings(list: &mut List, random: &mut Random) {
     let drawings = (0..32).map(|d| generate::drawing_of(random, 10, 9 + d % 6, 1));
-    let survey: Vec<u8> = drawings.flat_map(|d| d.record()).collect();
+    let survey = each_its_crane(&drawings.collect::<Vec<_>>());
     list.put_catalogue("many embeddings, s 2, L 4", &asked(&survey, 2, 4));
 }
 
 fn put_thirty_two(list: &mut List, random: &mut Random) {
-    let d3 = plain(&[(0, 1), (1, 2)]).record().repeat(32);
+    let d3 = plain(&[(0, 1), (1, 2)]);
+    let d3: Vec<u8> = (224..=255)
+        .rev()
+        .flat_map(|crane| d3.sheet(crane))
+        .collect();
     let greatest = list.put_catalogue("thirty-two times D3, s 32, L 8", &asked(&d3, 32, 8));
     assert_eq!(greatest, 2);
     let shape = Shape {

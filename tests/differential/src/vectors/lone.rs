@@ -1,9 +1,10 @@
 //! Lone devices, request R-1: their codes and order, rows that are none, matching and sameness, counts that do not go together, lent
 //! output that is short, and surveys that have some or nothing else.
 use super::checks::Asked;
-use super::notation::{code, drawing, map};
+use super::notation::{code, drawing, map, survey};
 use super::{Call, List};
 use crate::answers;
+use crate::drawing::RECORD;
 
 /// A name, a drawing of one device and its code.
 fn lone_drawings() -> [(&'static str, Vec<u8>, Vec<u8>); 4] {
@@ -22,7 +23,8 @@ fn put_codes(list: &mut List) {
         list.put(name, Call::CheckDrawing(&record));
         list.put_code(name, &record, &least);
         list.put_verdict(name, &least, true);
-        assert_eq!(answers::decode(&least, &[0; 72]).output, record, "{name}");
+        let decoded = answers::decode(&least, &[0; RECORD]);
+        assert_eq!(decoded.output, record, "{name}");
     }
     let [zero, seven, eight, greatest] = lone_drawings().map(|(_, _, least)| least);
     list.put_order("lone 7 and 8", &seven, &eight);
@@ -105,10 +107,10 @@ fn put_lent(list: &mut List) {
         let answer = list.put(&name, Call::CodeDrawing(&record, lent));
         assert_eq!(answer.refused.number, number(lent >= 5), "{name}");
     }
-    for lent in [71, 72] {
+    for lent in [RECORD - 1, RECORD] {
         let name = format!("lone 7, {lent} bytes lent");
         let answer = list.put(&name, Call::Decode(&least, lent));
-        assert_eq!(answer.refused.number, number(lent >= 72), "{name}");
+        assert_eq!(answer.refused.number, number(lent >= RECORD), "{name}");
     }
     // The room for a map is checked before the search.
     for lent in [0, 1] {
@@ -124,11 +126,11 @@ fn put_lent(list: &mut List) {
 fn put_surveys(list: &mut List) {
     let (one, seven) = (drawing("1", ""), drawing("7", ""));
     let (d3, d4) = (drawing("111", "015 125"), drawing("111", "015 125 205"));
-    let among = [&one[..], &d3, &seven, &one, &d4, &one].concat();
+    let among = survey(&[&one, &d3, &seven, &one, &d4, &one]);
     let counted = list.put("D12 among lone", Call::CheckSurvey(&among));
     assert_eq!((counted.refused.number, counted.count), (0, 6));
     for (threshold, entries) in [(1, 3), (2, 2), (3, 0)] {
-        let without = [&d3[..], &d4].concat();
+        let without = survey(&[&d3, &d4]);
         let [among, without] = [&among, &without].map(|survey| Asked {
             survey,
             threshold,
@@ -145,7 +147,7 @@ fn put_surveys(list: &mut List) {
     );
     list.put_fetches("D12 among lone", &among, [2, 5, 6]);
 
-    let alone = [&seven[..], &one, &seven].concat();
+    let alone = survey(&[&seven, &one, &seven]);
     list.put("lone alone", Call::CheckSurvey(&alone));
     for call in [
         Call::WriteCatalogue(&alone, 1, 8, 0),

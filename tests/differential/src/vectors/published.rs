@@ -1,9 +1,9 @@
 //! Published examples: of document 000 the canonical code of its G1 to G3, and the extensions with supports of its two graphs;
 //! of document 001 its molecule, by both code words. Labels stand as the numbers of their letters.
 use super::checks::Asked;
-use super::notation::{code, drawing, map};
+use super::notation::{code, drawing, map, survey};
 use super::{Call, List};
-use crate::drawing::{Cable, Drawing};
+use crate::drawing::{Cable, Drawing, RECORD};
 
 /// 000, Canonical DFS Code: three DFS codes of one graph, of which the first is the canonical one. Its order puts the kind of j
 /// before the cable kind; on these three both orders agree.
@@ -46,9 +46,8 @@ fn put_extensions(list: &mut List) {
     list.put_map("000 C in G1", &pattern, &g1, &map("021"), 3);
     list.put_map("000 C in G2", &pattern, &g2, &map("132"), 3);
 
-    let survey = [g1, g2].concat();
     let all = Asked {
-        survey: &survey,
+        survey: &survey(&[&g1, &g2]),
         threshold: 1,
         limit: 8,
     };
@@ -67,7 +66,7 @@ fn put_extensions(list: &mut List) {
     assert_eq!(list.put_catalogue("000 two graphs, s 2, L 4", &usual), 10);
 
     let many = Asked {
-        survey: &[&survey[..], &survey, &chain(150), &chain(200)].concat(),
+        survey: &survey(&[&g1, &g2, &g1, &g2, &chain(150), &chain(200)]),
         threshold: 2,
         ..all
     };
@@ -87,7 +86,7 @@ fn chain(first: u8) -> Vec<u8> {
         kinds: (0..10).map(|d| first + d).collect(),
         cables: cables.collect(),
     };
-    chain.record().to_vec()
+    chain.record()
 }
 
 /// 001, A Simple Example: S before N before O before C are 1 to 4. Code word A numbers the molecule depth first, B breadth
@@ -105,7 +104,7 @@ fn put_molecule(list: &mut List) {
     list.put_verdict("001 A is a DFS code", &code(word), false);
     put_word(list, word);
     let parts = Asked {
-        survey: &[a, b].concat(),
+        survey: &survey(&[&a, &b]),
         threshold: 2,
         limit: 4,
     };
@@ -128,7 +127,8 @@ fn put_word(list: &mut List, word: &str) {
     ];
     for (device, record, wanted) in extended {
         let name = format!("001 A extended at {device}");
-        let answer = list.put(&name, Call::Decode(&code(&format!("{word} {record}")), 72));
+        let extended = code(&format!("{word} {record}"));
+        let answer = list.put(&name, Call::Decode(&extended, RECORD));
         let number = if wanted { 0 } else { 10 };
         assert_eq!(answer.refused.number, number, "{name}");
     }

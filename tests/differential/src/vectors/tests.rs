@@ -1,8 +1,11 @@
 //! Every call has every answer and every refusal that it can have, in each place of two and of a survey.
-use super::{list, Seen};
-use crate::answers::{FIRST, LATER, SECOND};
+use super::{List, Seen};
+use crate::answers::{self, Answer, FIRST, LATER, SECOND};
+use crate::cranes::*;
+use crate::drawing::{CRANE_AT, RECORD};
 use crate::lone::*;
 use std::collections::BTreeSet;
+use std::sync::OnceLock;
 
 const OF_A_DRAWING: &[u8] = &[1, 2, 3, 4, 5, 6, 7, 8];
 const IN_A_SURVEY: &[u8] = &[2, 3, 4, 5, 6, 7, 8];
@@ -11,6 +14,12 @@ const OF_A_CODE: &[u8] = &[9, 10, 11];
 const OF_THE_SETTINGS: &[u8] = &[12, 13];
 const OF_THE_OUTPUT: &[u8] = &[15];
 const OF_THE_BOOK: &[u8] = &[16, 17];
+
+/// The list, made once for all tests.
+fn list() -> &'static List {
+    static LIST: OnceLock<List> = OnceLock::new();
+    LIST.get_or_init(super::list)
+}
 
 /// A call, its answers, its refusals and those that come from a second argument or a later drawing.
 type Row = (
@@ -155,4 +164,94 @@ fn every_outcome_is_listed() {
         missing.is_empty() && further.is_empty(),
         "{missing:?} {further:?}"
     );
+}
+
+const OF_ONE: &[&str] = &[CRANE_0, CRANE_BETWEEN, CRANE_255];
+const OF_TWO: &[&str] = &[ALIKE, DIFFER];
+const OF_SHEETS: &[&str] = &[
+    EACH_ITS_OWN,
+    ONE_CRANE,
+    SIDE_BY_SIDE,
+    SCATTERED,
+    AMONG_OTHERS,
+    GREATEST,
+];
+
+/// A call, its answers beside cranes, and what there is to tell of these.
+const CRANE_ANSWERS: &[(&str, &[&str], &[&str])] = &[
+    ("check_drawing", &["accepted"], OF_ONE),
+    ("check_survey", &["accepted"], &[ONE_CRANE, SCATTERED]),
+    ("same", &["yes", "no"], OF_TWO),
+    ("open", &["opened"], &[EACH_ITS_OWN, ONE_CRANE, SCATTERED]),
+    ("fetch", &["fetched"], &[EACH_ITS_OWN, ONE_CRANE, SCATTERED]),
+    ("code_drawing", &["written"], OF_ONE),
+    ("decode", &["written"], &[OVERWRITTEN]),
+    ("match_drawing", &["map", "not contained"], OF_TWO),
+    ("write_catalogue", &["entries"], OF_SHEETS),
+    ("write_catalogue", &["no entry"], &[TOO_FEW]),
+    ("usual_catalogue", &["entries"], &[SIDE_BY_SIDE, SCATTERED]),
+    ("usual_catalogue", &["no entry"], &[ONE_CRANE, TOO_FEW]),
+];
+
+/// A call, its refusal beside cranes, whose it is, and what there is to tell.
+const CRANE_REFUSALS: &[(&str, u8, &[&str], &str)] = &[
+    ("check_drawing", 1, &[FIRST], OLD),
+    ("check_survey", 1, &[FIRST], OLD),
+    ("same", 1, &[FIRST, SECOND], OLD),
+    ("open", 1, &[FIRST], OLD),
+    ("code_drawing", 1, &[FIRST], OLD),
+    ("decode", 15, &[FIRST], SHORT_OF_CRANE),
+    ("match_drawing", 1, &[FIRST, SECOND], OLD),
+    ("write_catalogue", 1, &[FIRST], OLD),
+    ("usual_catalogue", 1, &[FIRST], OLD),
+];
+
+#[test]
+fn every_outcome_beside_cranes_is_listed() {
+    let mut wanted = BTreeSet::new();
+    for &(call, answers, told) in CRANE_ANSWERS {
+        for &said in answers {
+            wanted.extend(told.iter().map(|&near| (call, Seen::Answer(said, near))));
+        }
+    }
+    for &(call, number, sides, near) in CRANE_REFUSALS {
+        let seen = |&whose| (call, Seen::Refusal(number, whose, near));
+        wanted.extend(sides.iter().map(seen));
+    }
+    let list = list();
+    let missing: Vec<_> = wanted.difference(&list.beside_cranes).collect();
+    assert!(missing.is_empty(), "{missing:?}");
+}
+
+/// What a wrong reader gives of a survey's drawing in place of its very bytes.
+type Part = fn(&[u8], usize) -> Vec<u8>;
+
+const WRONG_READERS: &[(&str, Part)] = &[
+    ("without the crane", |survey, d| {
+        survey[RECORD * d..][..OLD_RECORD].to_vec()
+    }),
+    ("crane 0", |survey, d| {
+        let mut part = survey[RECORD * d..][..RECORD].to_vec();
+        part[CRANE_AT] = 0;
+        part
+    }),
+    ("from where it was before there were cranes", |survey, d| {
+        survey[OLD_RECORD * d..][..RECORD].to_vec()
+    }),
+];
+
+/// The reader has no call from C, so that its spoiled libraries stand here: some fetch of the list has to show each.
+#[test]
+fn wrong_readers_are_noticed() {
+    let list = list();
+    let fetches = list.fetches.iter();
+    let fetched: Vec<(&[u8], usize, Answer)> = fetches
+        .map(|(survey, d)| (&survey[..], *d, answers::fetch(survey, *d)))
+        .filter(|(_, _, answer)| answer.refused.number == 0)
+        .collect();
+    for (wrong, part) in WRONG_READERS {
+        let shows =
+            |(survey, d, answer): &&(&[u8], usize, Answer)| part(survey, *d) != answer.output;
+        assert!(fetched.iter().any(|fetch| shows(&fetch)), "{wrong}");
+    }
 }

@@ -17,7 +17,7 @@ counted-requires : tie.Need-counted-requires
 counted-requires c κs = search needs
 
 -- the record has its length
-whole : (c : tie.After-counted) → length (c .before .before .before .args .drawing .now) ≡ 72
+whole : (c : tie.After-counted) → length (c .before .before .before .args .drawing .now) ≡ 73
 whole c = omega arith
 
 check-counts-requires : tie.Need-check-counts-requires

@@ -17,7 +17,7 @@ counted-requires : tie.Need-counted-requires
 counted-requires c κs = search needs
 
 -- the drawings are whole
-whole : (c : tie.After-counted) → length (c .before .before .before .args .survey .now) % 72 ≡ 0
+whole : (c : tie.After-counted) → length (c .before .before .before .args .survey .now) % 73 ≡ 0
 whole c = omega arith
 
 returns-2 : tie.Need-returns-2

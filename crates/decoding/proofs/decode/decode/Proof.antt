@@ -43,14 +43,14 @@ slice-relend-prefix-write-drawing c = search needs
 slice-aggregate-write-drawing : tie.Need-slice-aggregate-write-drawing
 slice-aggregate-write-drawing c =
     let a = c .before .before .before .before .before .before .before .args in
-    sym (length-take-le 72 (a .output .now) (c .before .if1 .left))
+    sym (length-take-le 73 (a .output .now) (c .before .if1 .left))
 
 write-drawing-requires : tie.Need-write-drawing-requires
 write-drawing-requires c κs =
     let a = c .before .before .before .before .before .before .before .args in
     record {
       accepted = section-checked-accepted (a .code .now) (accepted (c .before .before));
-      room = length-take-le 72 (a .output .now) (c .before .if1 .left);
+      room = length-take-le 73 (a .output .now) (c .before .if1 .left);
     }
 
 same-length : tie.Need-same-length
@@ -62,7 +62,7 @@ returns-3 c =
     let a = k .before .before .before .before .before .before .args in
     let o = a .output .now in
     decode-written (a .code .now) o _ (accepted (k .before)) (k .if1 .left)
-    (ap (λ (l : List ℕ). l ++ drop 72 o) (c .before .before .write-drawing .ensures))
+    (ap (λ (l : List ℕ). l ++ drop 73 o) (c .before .before .write-drawing .ensures))
 
 pub decode-spec : {M : Type 1} → statement M
 decode-spec =

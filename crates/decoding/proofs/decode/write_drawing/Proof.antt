@@ -24,7 +24,7 @@ write-device-requires : tie.Need-write-device-requires
 write-device-requires c κs = search needs
 
 -- the bytes are zero
-zeros : (c : tie.After-clear) → c .clear .last .0 ≡ replicate 72 0
+zeros : (c : tie.After-clear) → c .clear .last .0 ≡ replicate 73 0
 zeros c = c .clear .ensures ∙ ap (λ (n : ℕ). replicate n 0) (c .before .before .before .before .pre .room)
 
 write-steps-requires : tie.Need-write-steps-requires

@@ -34,10 +34,10 @@ after-two c =
     (λ w. w .6 ∙ w .3 .ensures ∙ ap (write-device (e .j) (e .kj)) d ∙ sym (forward-some (s .args .k) e (one s) (w .0 .taken)))
     (λ w. w .1 ∙ d ∙ sym (forward-none (s .args .k) e (one s) (w .0 .left))) (c .if2 .came)
 
-one-length : (s : tie.Start) → length (one s) ≡ 72
+one-length : (s : tie.Start) → length (one s) ≡ 73
 one-length s = write-first-length (s .args .drawing .now) (s .args .k) (as-rec (s .args .next)) ∙ s .pre .room
 
-two-length : (s : tie.Start) → length (two s) ≡ 72
+two-length : (s : tie.Start) → length (two s) ≡ 73
 two-length s = write-forward-length (one s) (as-rec (s .args .next)) ∙ one-length s
 
 write-device-requires : tie.Need-write-device-requires

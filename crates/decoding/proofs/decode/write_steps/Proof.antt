@@ -14,7 +14,7 @@ use Rattle.decoding.proofs.decode.write_steps.Tie as tie
 
 abbrev Inv-loop : tie.InvT-loop
 Inv-loop code drawing₀ k₀ k-end drawing k =
-    (k ≤ k-end) × (k-end ≡ length code / 5) × (length drawing ≡ 72) × (drawing ≡ drawing-bytes (decoded (recs-in k code)))
+    (k ≤ k-end) × (k-end ≡ length code / 5) × (length drawing ≡ 73) × (drawing ≡ drawing-bytes 0 (decoded (recs-in k code)))
 
 abbrev μ-loop : tie.MeasureT-loop
 μ-loop code drawing₀ k₀ k-end drawing k = k-end - k
@@ -61,7 +61,7 @@ returns c =
     let l = c .before .loop in
     let bs = c .before .before .before .before .args .code .now in
     let e : l .k ≡ length bs / 5 = omega arith in
-    l .inv .3 ∙ ap (λ (n : ℕ). drawing-bytes (decoded (recs-in n bs))) e
+    l .inv .3 ∙ ap (λ (n : ℕ). drawing-bytes 0 (decoded (recs-in n bs))) e
 
 pub write-steps-spec : {M : Type 1} → statement M
 write-steps-spec =

@@ -25,12 +25,20 @@ note-bits-requires c κs =
     let f = r .before .before .before in
     (f .before .before .before .before .pre .accepted, f .fill-labels .ensures, (_, r .rank-labels .ensures))
 
+note-sheets-requires : tie.Need-note-sheets-requires
+note-sheets-requires c κs =
+    let n = c .before in
+    let s = n .before .before .before .before .before .before .before .before .before .before in
+    (s .pre .accepted, n .note-bits .ensures .0)
+
 write-patterns-requires : tie.Need-write-patterns-requires
 write-patterns-requires c κs =
-    let n = c .before .before .before .before in
+    let h = c .before .before .before .before in
+    let n = h .before .before in
     let r = n .before .before .before in
     let s = r .before .before .before .before .before .before .before in
-    tables-ready (s .pre) (n .note-bits .ensures .0) (r .rank-labels .ensures) (n .note-bits .ensures .1)
+    tables-ready (s .pre) (n .note-bits .ensures .0) (r .rank-labels .ensures) (n .note-bits .ensures .1) (h .note-sheets .ensures .0)
+    (h .note-sheets .ensures .1)
 
 enum-known-entries : tie.Need-enum-known-entries
 enum-known-entries c = search needs
@@ -47,7 +55,7 @@ same-length c = search needs
 returns : tie.Need-returns
 returns c =
     let m = c .before .before .before .before .before in
-    let r = m .before .before .before .before .before .before .before .before in
+    let r = m .before .before .before .before .before .before .before .before .before .before in
     let s = r .before .before .before .before .before .before .before in
     writes-all (s .pre) (r .rank-labels .result) (s .args .output .now) _ _ (rw (c .before .entries .given .1) at (m .write-patterns .ensures))
     (m .write-patterns .kept .1 .1 .1 .1 .1 .0)
@@ -58,7 +66,7 @@ same-length-2 c = search needs
 returns-2 : tie.Need-returns-2
 returns-2 c =
     let m = c .before .before .before .before .before .before .before .before in
-    let r = m .before .before .before .before .before .before .before .before in
+    let r = m .before .before .before .before .before .before .before .before .before .before in
     let s = r .before .before .before .before .before .before .before in
     writes-empty (s .pre) (r .rank-labels .result) (s .args .output .now) (m .write-patterns .last .1 .1 .1 .1 .1 .0) _
     (rw (c .before .before .before .before .enum-told .given .1) at (m .write-patterns .ensures)) (m .write-patterns .kept .1 .1 .1 .1 .1 .0)
@@ -71,6 +79,7 @@ write-accepted-spec =
     fill-labels-requires
     rank-labels-requires
     note-bits-requires
+    note-sheets-requires
     write-patterns-requires
     enum-known-entries
     enum-told

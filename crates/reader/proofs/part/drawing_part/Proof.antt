@@ -1,4 +1,4 @@
--- `part::drawing_part` meets its contract: the part begins 72 bytes further on for each drawing before it. Assumes nothing.
+-- `part::drawing_part` meets its contract: the part begins 73 bytes further on for each drawing before it. Assumes nothing.
 use Prim.Native.Nat.{ℕ, _*_, _<_, _≤_}
 use mathlib.Core.Path.{refl, ap}
 use native.Mathlib.Nat.{add-comm}
@@ -34,7 +34,7 @@ returns c =
     let below : s .args .d < drawing-count (s .args .survey .now) = omega arith in
     record {
       bytes = λ h. drawing-part (s .args .survey .now) (s .args .d);
-      place = λ h. ap (λ (o : ℕ). (s .args .survey .ptr .0, o)) (add-comm (72 * s .args .d) (s .args .survey .ptr .1));
+      place = λ h. ap (λ (o : ℕ). (s .args .survey .ptr .0, o)) (add-comm (73 * s .args .d) (s .args .survey .ptr .1));
       none = λ h. absurd (omega arith);
     }
 

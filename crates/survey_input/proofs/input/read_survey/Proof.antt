@@ -1,4 +1,4 @@
--- `input::read_survey` meets its contract. The invariant: fewer than 2,376 bytes are read. Each turn reads some more. Assumes
+-- `input::read_survey` meets its contract. The invariant: fewer than 2,409 bytes are read. Each turn reads some more. Assumes
 -- nothing.
 use mathlib.Core.Path.{_≡_, sym, subst, _∙_}
 use mathlib.Core.List.{List}
@@ -17,15 +17,15 @@ use Rattle.survey_input.proofs.input.read_survey.Statement.{statement}
 use Rattle.survey_input.proofs.input.read_survey.Tie as tie
 
 -- an answer of a read is what the machine reads back from its bits
-moved-back : (n : ℕ) (z : ℤ) → n ≤ 2376 → Moved n z → Moved n (toZ w64 (ofZ w64 z))
+moved-back : (n : ℕ) (z : ℤ) → n ≤ 2409 → Moved n z → Moved n (toZ w64 (ofZ w64 z))
 moved-back n (pos k) h m = subst (Moved n) (sym (toZ-ofZ w64 (pos k) (record { sfits = omega arith }))) m
 moved-back n (negsuc k) h m = subst (Moved n) (sym (toZ-ofZ w64 (negsuc k) (record { sfits = omega arith }))) m
 
 abbrev Inv-loop : tie.InvT-loop
-Inv-loop bytes₀ n₀ bytes n = (n < 2376) × (length bytes ≡ 2376)
+Inv-loop bytes₀ n₀ bytes n = (n < 2409) × (length bytes ≡ 2409)
 
 abbrev μ-loop : tie.MeasureT-loop
-μ-loop bytes₀ n₀ bytes n = 2376 - n
+μ-loop bytes₀ n₀ bytes n = 2409 - n
 
 -- the lent bytes after a read
 abbrev lent-now : tie.After-after-read Inv-loop μ-loop → List ℕ
@@ -57,11 +57,11 @@ enum-known-read c = search needs
 -- a turn that goes on has read some bytes
 grown : (c : tie.After-known-told Inv-loop μ-loop)
     → (c .before .before .before .before .before .before .before .before .loop .n < c .before .read2 .given .0 .0)
-    × (c .before .read2 .given .0 .0 < 2376)
+    × (c .before .read2 .given .0 .0 < 2409)
 grown c = more-read _ _ (c .before .read2 .given .0 .0) (sym (c .before .before .before .after-read .ensures) ∙ c .before .read2 .given .1)
 
 -- there are as many lent bytes as before
-same-size : (c : tie.After-after-read Inv-loop μ-loop) → length (lent-now c) ≡ 2376
+same-size : (c : tie.After-after-read Inv-loop μ-loop) → length (lent-now c) ≡ 2409
 same-size c =
     let l = c .before .before .before .before .before .loop in
     let r = c .before .before .before .read in
@@ -81,8 +81,8 @@ returns c =
     let a = c .before .before .before in
     let l = a .before .before .before .before .before .loop in
     let r = a .before .before .before .read in
-    let room : length (midOf (l .n) (length (l .bytes) - l .n) (l .bytes)) ≡ 2376 - l .n = simp (length-take, length-drop) (omega arith) in
-    let moved = moved-back (2376 - l .n) (r .result) (omega arith) (subst (λ (k : ℕ). Moved k (r .result)) room (r .ensures)) in
+    let room : length (midOf (l .n) (length (l .bytes) - l .n) (l .bytes)) ≡ 2409 - l .n = simp (length-take, length-drop) (omega arith) in
+    let moved = moved-back (2409 - l .n) (r .result) (omega arith) (subst (λ (k : ℕ). Moved k (r .result)) room (r .ensures)) in
     rw (same-size a)
     (all-read (l .n) _ (c .before .read3 .given .0 .0) (omega arith) moved (sym (a .after-read .ensures) ∙ c .before .read3 .given .1))
 

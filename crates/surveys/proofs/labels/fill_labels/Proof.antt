@@ -56,7 +56,7 @@ put-drawing-requires c κs =
     let ten : length (t .result) ≡ 100 = search needs in
     let a = accepted-survey (s .args .survey .now) (s .pre .0) in
     let labels = rw (drawing-part (s .args .survey .now) (l .d)) at (t .ensures) in
-    let p = labelled-section (row 72 (l .d) (s .args .survey .now)) (t .result) (a .drawing (l .d) (omega arith)) labels in
+    let p = labelled-section (row 73 (l .d) (s .args .survey .now)) (t .result) (a .drawing (l .d) (omega arith)) labels in
     (omega (arith, a .most), ten, l .inv .2 .size, labels-low _ p labels)
 
 add-d : tie.Need-add-d Inv-loop μ-loop

@@ -5,7 +5,7 @@ use mathlib.Core.List.{List}
 use Prim.Native.Nat.{ℕ}
 use lib.ListN.{length, take}
 use Rattle.graphs.specs.Survey as surveys
-use Rattle.graphs.specs.Survey.{survey, cranes, length-refusal, bytes-refusal, survey-refusal}
+use Rattle.graphs.specs.Survey.{length-refusal, bytes-refusal, survey-refusal}
 use Rattle.growth.specs.Catalogue.{Often-in, support-of}
 use Rattle.text_lines.specs.Texts.{refusal-text}
 use Rattle.printing.specs.ListTextLaws.{whole-text-once}

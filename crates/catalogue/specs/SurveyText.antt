@@ -2,7 +2,7 @@
 -- survey. Assumes nothing: these are definitions.
 use mathlib.Core.List.{List}
 use Prim.Native.Nat.{ℕ}
-use Rattle.graphs.specs.Survey.{survey, cranes, survey-refusal}
+use Rattle.graphs.specs.Survey.{survey-refusal}
 use Rattle.growth.specs.Catalogue.{Often-in, support-of}
 use Rattle.printing.specs.declared.answer.Printed.{Printed}
 use Rattle.printing.specs.ListTexts.{List-text, List-text-says, List-text-whole}

@@ -10,7 +10,7 @@ use lib.ListN.{length}
 use Rattle.laws.specs.Rows.{rows-length}
 use Rattle.graphs.specs.Drawing.{drawing-refusal}
 use Rattle.graphs.specs.Survey as surveys
-use Rattle.graphs.specs.Survey.{survey, cranes, records-in, drawings-refusal, length-refusal, bytes-refusal, survey-refusal}
+use Rattle.graphs.specs.Survey.{records-in, drawings-refusal, length-refusal, bytes-refusal, survey-refusal}
 use Rattle.growth.specs.Catalogue.{Often-in, support-of}
 use Rattle.mining.specs.CatalogueSays.{Catalogue-says}
 use Rattle.records.specs.declared.catalogued.Catalogued.{Catalogued}

@@ -2,9 +2,7 @@
 -- is chosen. Rests on PreparedLaws. Assumes nothing.
 use mathlib.Core.Path.{_∙_, sym}
 use mathlib.Core.List.{List}
-use Prim.Native.Nat.{ℕ, _≤_}
-use native.Mathlib.Omega.{arith}
-use lib.ListN.{length}
+use Prim.Native.Nat.{ℕ}
 use Rattle.codes.specs.Code.{Rec}
 use Rattle.growth.specs.Floors.{Grown-above}
 use Rattle.walks.specs.LabelMarks.{drawings-of, cranes-of}

@@ -9,7 +9,7 @@ use lib.Dec.{ltb, lit<, lit≤}
 use lib.ListN.{length}
 use Rattle.graphs.specs.Drawing.{Drawing}
 use Rattle.graphs.specs.Survey as surveys
-use Rattle.graphs.specs.Survey.{survey, cranes, survey-refusal}
+use Rattle.graphs.specs.Survey.{survey-refusal}
 use Rattle.codes.specs.Code.{kinds-before}
 use Rattle.growth.specs.Catalogue.{Entry, List-of, Often-in, support-of}
 use Rattle.books.specs.Book.{Small, unsupported, book-refusal}

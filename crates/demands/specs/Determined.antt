@@ -17,7 +17,7 @@ use Rattle.laws.specs.Rows.{row}
 use Rattle.graphs.specs.Drawing.{Drawing, devices, drawing-in, drawing-refusal}
 use Rattle.graphs.specs.Map.{least-map}
 use Rattle.graphs.specs.Survey as surveys
-use Rattle.graphs.specs.Survey.{survey, cranes, length-refusal, bytes-refusal, survey-refusal, drawing-count}
+use Rattle.graphs.specs.Survey.{survey, length-refusal, bytes-refusal, survey-refusal, drawing-count}
 use Rattle.codes.specs.Code.{Rec, code-records, kinds-before}
 use Rattle.codes.specs.CodeOrder.{kinds-order}
 use Rattle.codes.specs.SectionCodes.{least-section-unique}

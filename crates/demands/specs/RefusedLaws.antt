@@ -12,7 +12,7 @@ use lib.ListN.{length}
 use borrow.Author.Tests.{lt-ltb, le-ltb, ne-eqb}
 use Rattle.graphs.specs.Drawing.{Drawing, devices, drawing-in, drawing-refusal}
 use Rattle.graphs.specs.Survey as surveys
-use Rattle.graphs.specs.Survey.{survey, cranes, survey-refusal}
+use Rattle.graphs.specs.Survey.{survey-refusal}
 use Rattle.graphs.specs.Map.{least-map}
 use Rattle.codes.specs.Code.{code-records, kinds-before}
 use Rattle.codes.specs.CodeOrder.{kinds-order}

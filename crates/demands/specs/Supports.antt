@@ -1,18 +1,18 @@
 -- The support of a pattern is the number of different cranes that have a drawing in which it has an embedding; it falls with containment, looks
 -- at the pattern up to a map, is at most the number of drawings that contain it, and just that where all cranes differ. Rests on the least map
 -- and on crane counts. Assumes nothing.
-use mathlib.Core.Path.{_≡_, refl, sym, ap, ap₂, _∙_, subst}
+use mathlib.Core.Path.{_≡_, refl, sym, ap, ap₂, _∙_}
 use mathlib.Core.Bool.{Bool, true, false, cond}
 use mathlib.Core.List.{List, [], _∷_, map}
 use Prim.Native.Nat.{ℕ, zero, suc, _+_, _≤_, _<_}
 use native.Mathlib.Omega.{arith}
 use lib.ListN.{length, getD, length-map, List·getD-map}
 use Rattle.laws.specs.Tests.{true-and-false}
-use Rattle.laws.specs.Lists.{Mem, Mem-place, place, mem-eq, getD-default}
+use Rattle.laws.specs.Lists.{Mem, mem-eq, getD-default}
 use Rattle.laws.specs.Counting.{Different, different-fewer}
 use Rattle.graphs.specs.Drawing.{Drawing}
 use Rattle.graphs.specs.Embedding.{Ends-in-range}
-use Rattle.graphs.specs.Survey.{containing, count-true, marked-cranes, each-once, crane-count, support}
+use Rattle.graphs.specs.Survey.{containing, count-true, marked-cranes, each-once, support}
 use Rattle.graphs.specs.CraneCounts.{
   Marked-drawing,
   each-once-has,

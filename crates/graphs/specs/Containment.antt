@@ -2,10 +2,9 @@
 -- sameness is containment with equal numbers. Rests on LeastMap.antt, Isomorphisms.antt and CountingCables.antt.
 -- Assumes nothing.
 use mathlib.Core.Path.{_≡_, refl, sym, ap, ap₂}
-use mathlib.Core.Bool.{Bool, true, false, cond}
+use mathlib.Core.Bool.{Bool, true, false}
 use mathlib.Core.List.{List, [], _∷_}
-use Prim.Native.Nat.{ℕ, zero, suc, _+_, _≤_}
-use native.Mathlib.Omega.{arith}
+use Prim.Native.Nat.{ℕ, zero, suc, _≤_}
 use lib.ListN.{length, getD}
 use Rattle.laws.specs.Tests.{same-truth}
 use Rattle.graphs.specs.Drawing.{Drawing, devices}

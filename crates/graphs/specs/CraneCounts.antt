@@ -1,13 +1,13 @@
 -- How many different cranes a set of drawings has: it is a function of the set, falls with it, is at most the number of its drawings, and
 -- just that where all cranes differ. Rests on the pigeonhole principle. Assumes nothing.
-use mathlib.Core.Path.{_≡_, refl, sym, ap}
+use mathlib.Core.Path.{_≡_, refl}
 use mathlib.Core.Bool.{Bool, true, false, cond, false≢true}
 use mathlib.Core.List.{List, [], _∷_}
-use Prim.Native.Nat.{ℕ, zero, suc, _+_, _≤_, _<_}
+use Prim.Native.Nat.{ℕ, zero, suc, _≤_, _<_}
 use native.Mathlib.Nat.{not-suc-le-zero, le-of-suc-le-suc}
 use native.Mathlib.Omega.{arith}
 use lib.ListN.{length, getD}
-use Rattle.laws.specs.Tests.{true-and-false, false-unless}
+use Rattle.laws.specs.Tests.{true-and-false}
 use Rattle.laws.specs.Lists.{Mem, mem-eq}
 use Rattle.laws.specs.Counting.{Different, different-fewer}
 use Rattle.graphs.specs.Drawing.{member}

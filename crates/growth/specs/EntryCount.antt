@@ -1,7 +1,7 @@
 -- How many entries a catalogue can have. An entry's pattern has an embedding in some drawing, and which drawing it is and which of its
 -- cables it lands on tell the entry: so there are no more than 32 times the ways to choose 1 to 8 of 20 cables. Assumes nothing.
 use mathlib.Core.Path.{_≡_, refl, sym, ap, subst, _∙_}
-use mathlib.Core.Bool.{Bool, true, false, cond}
+use mathlib.Core.Bool.{Bool, true}
 use mathlib.Core.List.{List, [], _∷_, map}
 use Prim.Native.Nat.{ℕ, suc, _+_, _*_, _-_, _≤_, _<_}
 use native.Mathlib.Omega.{arith}

@@ -11,7 +11,7 @@ use Rattle.laws.specs.Tests.{and-split}
 use Rattle.laws.specs.Rows.{rows-length}
 use Rattle.graphs.specs.Drawing.{Drawing, drawing-refusal}
 use Rattle.graphs.specs.Survey as surveys
-use Rattle.graphs.specs.Survey.{survey, cranes, records-in, drawings-refusal, length-refusal, bytes-refusal, survey-refusal}
+use Rattle.graphs.specs.Survey.{records-in, drawings-refusal, length-refusal, bytes-refusal, survey-refusal}
 use Rattle.growth.specs.Catalogue.{Entry, Often-in, support-of}
 use Rattle.books.specs.Book.{Small, unsupported, book-refusal}
 use Rattle.records.specs.declared.catalogued.Catalogued.{Catalogued}

@@ -1,7 +1,7 @@
 -- What writing a catalogue answers, and what it leaves in the lent bytes. Assumes nothing: these are definitions.
 use mathlib.Core.List.{List}
 use Prim.Native.Nat.{ℕ}
-use Rattle.graphs.specs.Survey.{survey, cranes, survey-refusal}
+use Rattle.graphs.specs.Survey.{survey-refusal}
 use Rattle.growth.specs.Catalogue.{Often-in, support-of}
 use Rattle.entries.specs.Written.{List-says}
 use Rattle.records.specs.declared.catalogued.Catalogued.{Catalogued}

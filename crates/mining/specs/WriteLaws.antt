@@ -10,7 +10,7 @@ use lib.ListN.{length, replicate}
 use borrow.Author.Tests.{le-leb, lt-leb}
 use Rattle.graphs.specs.AcceptedSurvey.{accepted-survey}
 use Rattle.graphs.specs.Survey as surveys
-use Rattle.graphs.specs.Survey.{survey, cranes, survey-refusal, bytes-refusal, refusal}
+use Rattle.graphs.specs.Survey.{survey, survey-refusal, bytes-refusal, refusal}
 use Rattle.codes.specs.Code.{kinds-before}
 use Rattle.codes.specs.CodeOrder.{kinds-order}
 use Rattle.growth.specs.Catalogue.{Often-in, support-of}

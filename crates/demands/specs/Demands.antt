@@ -1,8 +1,8 @@
 -- THE THREE DEMANDS, and the rules of matching, of the order, of lone sections, of cranes and of the book: each a record of statements over the
--- bytes that a caller sees, and a theorem that proves it. A statement's hypothesis is what the contract of a public entry says of its answer: `Code-says`,
--- `Decode-says`, `Catalogue-says` and so on, from C `Code-returns` and its fellows. It holds of whatever the call answers (r, v or
--- t), where the lent output was o before the call and is z after it. Terms.antt has the terms that only these statements need. That
--- an answer and every lent byte follow from the input is in Determined.antt. Assumes nothing.
+-- bytes that a caller sees, and a theorem that proves it. A statement's hypothesis is what the contract of a public entry says of its answer:
+-- `Code-says`, `Decode-says`, `Catalogue-says` and so on, from C `Code-returns` and its fellows. It holds of whatever the call answers (r, v or
+-- t), where the lent output was o before the call and is z after it. Terms.antt has the terms that only these statements need. That an answer and
+-- every lent byte follow from the input is in Determined.antt. Assumes nothing.
 use mathlib.Core.Path.{_≡_}
 use mathlib.Core.Bool.{true, false, cond}
 use mathlib.Core.List.{List, [], _∷_, _++_}

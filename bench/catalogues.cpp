@@ -1,5 +1,6 @@
 // The catalogue of the library beside that of the baseline: same surveys, same run, entries compared byte for byte. First each of the 32 drawings is
 // a crane of its own, and the baseline counts drawings; then some of the same drawings are the sheets of 8 cranes, four each, and it counts cranes.
+// Last, the check of a list beside the catalogue that it is held against.
 #include "baseline.hpp"
 #include "clock.hpp"
 #include "holvreiz.h"
@@ -69,6 +70,67 @@ struct Table {
     }
 };
 
+constexpr size_t MOST_CHECKED = 50000;
+
+// Of a list: right, wrong in its last entry, wrong in its first; and of no length that a list has, where all there is is the survey's check.
+struct Checked {
+    size_t entries = 0;
+    double written = 0, right = 0, last = 0, first = 0, refused = 0;
+    bool agree = true;
+};
+
+static double time_check(const Bytes &survey, Setting setting, const Bytes &list, uint64_t due, bool &agree) {
+    uint64_t returned = 0;
+    double time = bench::least_of_short([&] {
+        returned = holvreiz_check_list(survey.data(), survey.size(), setting.threshold, setting.limit, list.data(), list.size());
+    });
+    agree = agree && returned == due;
+    return time;
+}
+
+static Checked measure_checks(int kinds, Setting setting, unsigned seed) {
+    Checked c;
+    Bytes survey = bench::survey(kinds, seed), right(MOST_CHECKED * HOLVREIZ_ENTRY_BYTES);
+    uint64_t returned = 0;
+    c.written = bench::least_of_short([&] {
+        returned = holvreiz_catalogue(survey.data(), survey.size(), setting.threshold, setting.limit, right.data(), right.size());
+    });
+    c.entries = holvreiz_count(returned);
+    c.agree = holvreiz_refusal(returned) == 0 && c.entries > 0;
+    right.resize(c.entries * HOLVREIZ_ENTRY_BYTES);
+    Bytes last = right, first = right, longer = right;
+    last.back() ^= 1;
+    first.front() ^= 1;
+    longer.push_back(0);
+    c.right = time_check(survey, setting, right, 1, c.agree);
+    c.last = time_check(survey, setting, last, 0, c.agree);
+    c.first = time_check(survey, setting, first, 0, c.agree);
+    c.refused = time_check(survey, setting, longer, (uint64_t)HOLVREIZ_LIST_LENGTH << 32, c.agree);
+    return c;
+}
+
+// The number of checks with a wrong answer.
+static int check_rows() {
+    int differ = 0;
+    printf("| kinds | s, L | entries | catalogue ms | right list ms | wrong in its last entry ms | wrong in its first entry ms | refused 18 ms |\n");
+    printf("|---|---|---|---|---|---|---|---|\n");
+    for (int kinds : KINDS)
+        for (Setting setting : {SETTINGS[0], SETTINGS[1]}) {
+            Checked c[3];
+            for (int i = 0; i < 3; i++) {
+                c[i] = measure_checks(kinds, setting, SEEDS[i]);
+                differ += !c[i].agree;
+            }
+            printf("| %d | %u, %u | %zu, %zu, %zu ", kinds, setting.threshold, setting.limit, c[0].entries, c[1].entries, c[2].entries);
+            for (double Checked::*time : {&Checked::written, &Checked::right, &Checked::last, &Checked::first, &Checked::refused})
+                printf("| %.3f, %.3f, %.3f ", 1e3 * (c[0].*time), 1e3 * (c[1].*time), 1e3 * (c[2].*time));
+            printf("|\n");
+            fflush(stdout);
+        }
+    if (differ) printf("\nWRONG ANSWERS of %d lists.\n", differ);
+    return differ;
+}
+
 int main() {
     Table own, eight;
     Table::head();
@@ -80,5 +142,6 @@ int main() {
     for (int kinds : KINDS)
         for (Setting setting : {SETTINGS[0], SETTINGS[1]}) eight.row(kinds, setting, 8);
     eight.end();
-    return own.differ + eight.differ != 0;
+    printf("\nLists checked, beside the catalogue written:\n\n");
+    return own.differ + eight.differ + check_rows() != 0;
 }

@@ -1,5 +1,5 @@
-/* Holvreiz: the least DFS code of a wiring drawing, the catalogue of the patterns that recur in a survey of drawings, and the book of
- * all small patterns.
+/* Holvreiz: the least DFS code of a wiring drawing, the catalogue of the patterns that recur in a survey of drawings, the check of a list
+ * that was made elsewhere, and the book of all small patterns.
  *
  * The functions are proved: each answers any bytes of any length with what its contract says (crates/holvreiz/src), reads
  * nothing outside the bytes that it is given and writes nothing outside the lent output. Link target/staticlib/libholvreiz.a,
@@ -15,8 +15,9 @@
  * HOLVREIZ_OUTPUT_LENGTH of a catalogue or a book leaves the whole lent output zero. Lent bytes past an answer keep their content.
  * No count reaches 2^32: a catalogue has at most 8,446,368 entries.
  *
- * STACK: holvreiz_catalogue needs about 1.74 MB, also where it refuses; the others, holvreiz_book among them, need less than 32 KB.
- * A main thread has 8 MB as a rule; a thread that calls it should have 4 MB (pthread_attr_setstacksize). There is no heap.
+ * STACK: holvreiz_catalogue, holvreiz_check_list and holvreiz_check_usual need about 1.74 MB; the others, holvreiz_book among them, need
+ * less than 32 KB. A main thread has 8 MB as a rule; a thread that calls one of the three should have 4 MB
+ * (pthread_attr_setstacksize). There is no heap.
  */
 #ifndef HOLVREIZ_H
 #define HOLVREIZ_H
@@ -36,7 +37,8 @@ extern "C" {
  * A code is 1 to 20 records of 5 bytes: i, j, kind of i, cable kind, kind of j. That of a lone device of kind k is the one
  * record 0, 0, k, 0, k.
  * An entry of a catalogue or a book is 42 bytes: number of cables, support, the records of the least code, zeros up to 8 records.
- * The support in a catalogue is the number of different cranes among the drawings that contain the pattern; in a book it is 0. */
+ * The support in a catalogue is the number of different cranes among the drawings that contain the pattern; in a book it is 0.
+ * A list is any bytes that may be the entries of a catalogue, one behind another. */
 #define HOLVREIZ_DRAWING_BYTES 73
 #define HOLVREIZ_CRANE_AT 72 /* the place of a drawing's crane */
 #define HOLVREIZ_SURVEY_DRAWINGS 32
@@ -46,7 +48,8 @@ extern "C" {
 #define HOLVREIZ_ENTRY_BYTES 42
 
 /* REFUSALS. Places are checked from the top, as far as a call has them, and the first that applies is returned; of two
- * drawings or codes the first is checked fully before the second. A call's settings, 12 and 13, 16 and 17, come before all else. */
+ * drawings or codes the first is checked fully before the second. A call's settings, 12 and 13, 16 and 17, come before all else; the length of
+ * a list, 18, comes after the survey. */
 enum holvreiz_reason {
     HOLVREIZ_ANSWERED = 0,
     HOLVREIZ_DRAWING_LENGTH = 1,  /* a drawing is not 73 bytes long, or a survey no multiple of 73 */
@@ -65,10 +68,11 @@ enum holvreiz_reason {
     HOLVREIZ_SURVEY_LENGTH = 14,  /* a survey has no drawing, or over 32 */
     HOLVREIZ_OUTPUT_LENGTH = 15,  /* the lent output is too short for the whole answer */
     HOLVREIZ_KIND_COUNT = 16,     /* the kinds of devices or of cables of a book are not 1 to 3 */
-    HOLVREIZ_BOOK_LIMIT = 17      /* the size limit of a book is not 1 to 3 */
+    HOLVREIZ_BOOK_LIMIT = 17,     /* the size limit of a book is not 1 to 3 */
+    HOLVREIZ_LIST_LENGTH = 18     /* the length of a list is no multiple of 42 */
 };
 
-/* What a call returned, taken apart. The drawing at fault counts from 0; it is told of a catalogue's refusals 2 to 8. */
+/* What a call returned, taken apart. The drawing at fault counts from 0; it is told of refusals 2 to 8 of a catalogue or of the check of a list. */
 static inline uint32_t holvreiz_refusal(uint64_t returned) {
     return (uint32_t)(returned >> 32) & 255;
 }
@@ -109,6 +113,16 @@ uint64_t holvreiz_same(const uint8_t *first, size_t first_length, const uint8_t 
  * the call alone can tell: after HOLVREIZ_OUTPUT_LENGTH lend more and call again. 65,520 bytes do for most surveys at 2 and 4. Count: entries. */
 uint64_t holvreiz_catalogue(const uint8_t *survey, size_t survey_length, uint32_t threshold, uint32_t limit,
                             uint8_t *output, size_t output_length);
+
+/* Whether a list is the catalogue of a survey, byte for byte: the entries that holvreiz_catalogue writes with this threshold and this limit, one
+ * behind another, and nothing else. An incomplete list is not; a list of no byte is where nothing is frequent. Its bytes are only compared, so that
+ * it may hold anything and be longer than any catalogue. Refused as a catalogue is, without HOLVREIZ_OUTPUT_LENGTH; then for its length. No output
+ * is lent. Count: 1 yes, 0 no. */
+uint64_t holvreiz_check_list(const uint8_t *survey, size_t survey_length, uint32_t threshold, uint32_t limit,
+                             const uint8_t *list, size_t list_length);
+
+/* The same of the usual catalogue: threshold 2, limit 4. Count: 1 yes, 0 no. */
+uint64_t holvreiz_check_usual(const uint8_t *survey, size_t survey_length, const uint8_t *list, size_t list_length);
 
 /* Writes the book of all small patterns: an entry with support 0 for each connected pattern of 1 to `limit` cables (1 to 3) with device
  * kinds below `a` and cable kinds below `b` (1 to 3 each), codes rising. Needs 42 bytes of output for each entry; docs/BOOK.md has their

@@ -138,6 +138,67 @@ static void cranes(void) {
     EXPECT(is(holvreiz_code(elsewhere, DRAWING, output, LENT), HOLVREIZ_UNUSED_BYTE, 0, 0));
 }
 
+/* The list of the path and the triangle as two cranes, s = 1 and L = 4: right, incomplete, too long, with another support, in another order; the
+ * settings and the survey before the length of the list. What is given stays as it was. */
+static void lists(void) {
+    enum { ENTRY = HOLVREIZ_ENTRY_BYTES, THREE = 3 * HOLVREIZ_ENTRY_BYTES };
+    uint8_t survey[3 * DRAWING], list[THREE + ENTRY], before[THREE + ENTRY], kept[3 * DRAWING];
+    memcpy(survey, path, DRAWING);
+    memcpy(survey + DRAWING, triangle, DRAWING);
+    memcpy(survey + 2 * DRAWING, apart, DRAWING);
+    survey[DRAWING + CRANE_AT] = 1;
+    memset(list, 0, sizeof list);
+    EXPECT(is(holvreiz_catalogue(survey, 2 * DRAWING, 1, 4, list, THREE), HOLVREIZ_ANSWERED, 3, 0));
+    memcpy(kept, survey, sizeof survey);
+    memcpy(before, list, sizeof list);
+
+    EXPECT(is(holvreiz_check_list(survey, 2 * DRAWING, 1, 4, list, THREE), HOLVREIZ_ANSWERED, 1, 0));
+    EXPECT(is(holvreiz_check_list(survey, 2 * DRAWING, 1, 8, list, THREE), HOLVREIZ_ANSWERED, 1, 0));
+    EXPECT(is(holvreiz_check_list(survey, 2 * DRAWING, 1, 4, list, 2 * ENTRY), HOLVREIZ_ANSWERED, 0, 0));
+    EXPECT(is(holvreiz_check_list(survey, 2 * DRAWING, 1, 4, list, THREE + ENTRY), HOLVREIZ_ANSWERED, 0, 0));
+    EXPECT(is(holvreiz_check_list(survey, 2 * DRAWING, 1, 4, list, 0), HOLVREIZ_ANSWERED, 0, 0));
+    EXPECT(is(holvreiz_check_list(survey, 2 * DRAWING, 2, 4, list, THREE), HOLVREIZ_ANSWERED, 0, 0));
+    EXPECT(is(holvreiz_check_list(survey, 2 * DRAWING, 2, 4, list, 2 * ENTRY), HOLVREIZ_ANSWERED, 1, 0));
+    EXPECT(is(holvreiz_check_list(survey, 2 * DRAWING, 3, 4, list, 0), HOLVREIZ_ANSWERED, 1, 0));
+    EXPECT(is(holvreiz_check_usual(survey, 2 * DRAWING, list, 2 * ENTRY), HOLVREIZ_ANSWERED, 1, 0));
+    EXPECT(is(holvreiz_check_usual(survey, 2 * DRAWING, list, THREE), HOLVREIZ_ANSWERED, 0, 0));
+    EXPECT(is(holvreiz_check_usual(survey, DRAWING, list, 0), HOLVREIZ_ANSWERED, 1, 0));
+
+    EXPECT(is(holvreiz_check_list(survey, 2 * DRAWING, 1, 4, list, THREE - 1), HOLVREIZ_LIST_LENGTH, 0, 0));
+    EXPECT(is(holvreiz_check_list(survey, 2 * DRAWING, 1, 4, list, THREE + 1), HOLVREIZ_LIST_LENGTH, 0, 0));
+    EXPECT(is(holvreiz_check_usual(survey, 2 * DRAWING, list, 1), HOLVREIZ_LIST_LENGTH, 0, 0));
+    EXPECT(is(holvreiz_check_list(survey, 1, 33, 9, list, 1), HOLVREIZ_THRESHOLD, 0, 0));
+    EXPECT(is(holvreiz_check_list(survey, 1, 32, 9, list, 1), HOLVREIZ_SIZE_LIMIT, 0, 0));
+    EXPECT(is(holvreiz_check_list(survey, 1, 1, 4, list, 1), HOLVREIZ_DRAWING_LENGTH, 0, 0));
+    EXPECT(is(holvreiz_check_usual(survey, 0, list, 1), HOLVREIZ_SURVEY_LENGTH, 0, 0));
+    EXPECT(is(holvreiz_check_list(survey, 3 * DRAWING, 1, 4, list, 1), HOLVREIZ_NOT_CONNECTED, 0, 2));
+    EXPECT(is(holvreiz_check_usual(survey, 3 * DRAWING, list, 1), HOLVREIZ_NOT_CONNECTED, 0, 2));
+    EXPECT(memcmp(survey, kept, sizeof survey) == 0 && memcmp(list, before, sizeof list) == 0);
+
+    list[ENTRY + 1] = 1;
+    EXPECT(is(holvreiz_check_list(survey, 2 * DRAWING, 1, 4, list, THREE), HOLVREIZ_ANSWERED, 0, 0));
+    memcpy(list, before + ENTRY, ENTRY);
+    memcpy(list + ENTRY, before, ENTRY);
+    EXPECT(is(holvreiz_check_list(survey, 2 * DRAWING, 1, 4, list, THREE), HOLVREIZ_ANSWERED, 0, 0));
+    memset(list, 255, sizeof list);
+    EXPECT(is(holvreiz_check_list(survey, 2 * DRAWING, 1, 4, list, THREE), HOLVREIZ_ANSWERED, 0, 0));
+}
+
+/* A path of six devices on two cranes has an entry for each number of cables from 1 to 5; its usual list ends with four. */
+static void usual_lists(void) {
+    enum { ENTRY = HOLVREIZ_ENTRY_BYTES };
+    static const uint8_t long_path[DRAWING] = {6, 5, 1, 1, 1, 1, 1, 1, 0, 0, 0, 0, 0, 1, 5, 1, 2, 5, 2, 3, 5, 3, 4, 5, 4, 5, 5};
+    uint8_t survey[2 * DRAWING], list[5 * ENTRY];
+    memcpy(survey, long_path, DRAWING);
+    memcpy(survey + DRAWING, long_path, DRAWING);
+    survey[CRANE_AT] = 1;
+    EXPECT(is(holvreiz_catalogue(survey, 2 * DRAWING, 2, 5, list, sizeof list), HOLVREIZ_ANSWERED, 5, 0));
+    for (uint32_t entries = 0; entries <= 5; entries++) {
+        EXPECT(is(holvreiz_check_usual(survey, 2 * DRAWING, list, entries * ENTRY), HOLVREIZ_ANSWERED, entries == 4, 0));
+        EXPECT(is(holvreiz_check_list(survey, 2 * DRAWING, 2, 5, list, entries * ENTRY), HOLVREIZ_ANSWERED, entries == 5, 0));
+    }
+}
+
 /* Every call of devices without cables, of kinds 7 and 8. */
 static void lone(void) {
     static const uint8_t seven[DRAWING] = {1, 0, 7}, eight[DRAWING] = {1, 0, 8}, one[DRAWING] = {1, 0, 1}, with_cable[DRAWING] = {1, 1, 7};
@@ -180,6 +241,7 @@ static void lone(void) {
     memcpy(survey + 2 * DRAWING, path, DRAWING);
     lend();
     EXPECT(is(holvreiz_catalogue(survey, 2 * DRAWING, 1, 8, output, LENT), HOLVREIZ_ANSWERED, 0, 0) && all(output, LENT, MARK));
+    EXPECT(is(holvreiz_check_list(survey, 2 * DRAWING, 1, 8, output, 0), HOLVREIZ_ANSWERED, 1, 0));
     EXPECT(is(holvreiz_catalogue(survey, 3 * DRAWING, 1, 1, output, LENT), HOLVREIZ_ANSWERED, 1, 0));
     EXPECT(output[0] == 1 && output[1] == 1 && memcmp(output + 2, path_code, 5) == 0 && all(output + 42, LENT - 42, MARK));
     memcpy(survey + DRAWING, with_cable, DRAWING);
@@ -213,6 +275,8 @@ int main(void) {
     maps();
     catalogues();
     cranes();
+    lists();
+    usual_lists();
     lone();
     books();
     return failures != 0;

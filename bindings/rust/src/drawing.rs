@@ -84,7 +84,8 @@ impl Drawing {
         Ok(())
     }
 
-    /// The crane that the drawing is a sheet of. A catalogue counts the sheets of one crane once; the other calls do not look at it.
+    /// The crane that the drawing is a sheet of. A catalogue and the check of a list count the sheets of one crane once; the other calls do not look
+    /// at it.
     pub fn crane(&mut self, number: u8) {
         self.bytes[CRANE_AT] = number;
     }

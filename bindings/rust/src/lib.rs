@@ -1,9 +1,10 @@
-//! Holvreiz gives a wiring drawing its identity, lists the patterns that recur in a survey of drawings, and all small patterns.
+//! Holvreiz gives a wiring drawing its identity, lists the patterns that recur in a survey of drawings, and all small patterns, and tells
+//! of a list that was made elsewhere whether it is the catalogue of a survey.
 //!
 //! A drawing is a small labelled graph, held in a record of 73 bytes; its identity is its least DFS code. The record names too the crane
-//! that the drawing is a sheet of; only [`catalogue`], which counts cranes, looks at that. Every call takes any bytes of any length: what is
-//! no drawing, code or survey is turned back with the one [`Refusal`] that the format names. The library behind these calls is proved; this
-//! crate only passes slices on and takes the returned number apart.
+//! that the drawing is a sheet of; only [`catalogue`] and the checks of a list, which count cranes, look at that. Every call takes any bytes of
+//! any length: what is no drawing, code or survey is turned back with the one [`Refusal`] that the format names. The library behind these calls
+//! is proved; this crate only passes slices on and takes the returned number apart.
 //!
 //! ```
 //! // two devices, of kinds 2 and 1, joined by a cable of kind 7
@@ -18,9 +19,10 @@
 //! # Ok::<(), holvreiz::Refusal>(())
 //! ```
 //!
-//! **Stack.** There is no heap and no state, so that calls from several threads do not disturb each other. [`catalogue`] needs
-//! about 1.74 MB of stack, a refused call too: the main thread has 8 MB as a rule and a thread of `std::thread` 2 MB; one made
-//! with `std::thread::Builder::stack_size` should have 4 MB or more. The other calls, [`book`] among them, need less than 32 KB.
+//! **Stack.** There is no heap and no state, so that calls from several threads do not disturb each other. [`catalogue`],
+//! [`check_list`] and [`check_usual`] need about 1.74 MB of stack: the main thread has 8 MB as a rule and a thread of
+//! `std::thread` 2 MB; one made with `std::thread::Builder::stack_size` should have 4 MB or more. The other calls, [`book`] among them, need
+//! less than 32 KB.
 #![warn(missing_docs)]
 
 use std::cmp::Ordering;
@@ -54,7 +56,7 @@ pub const MAP_BYTES: usize = 10;
 /// catalogue is the number of different cranes among the drawings that contain the pattern; in a book it is 0.
 pub const ENTRY_BYTES: usize = 42;
 
-/// Why a call is turned back, by the format's numbers 1 to 17. A refused call writes nothing; only [`Refusal::OutputLength`] of a
+/// Why a call is turned back, by the format's numbers 1 to 18. A refused call writes nothing; only [`Refusal::OutputLength`] of a
 /// catalogue or a book leaves the whole output zero.
 #[derive(Clone, Copy, Debug, PartialEq, Eq, Hash, PartialOrd, Ord)]
 #[repr(u8)]
@@ -93,11 +95,13 @@ pub enum Refusal {
     KindCount,
     /// A book's size limit is not 1 to 3.
     BookLimit,
+    /// The length of a list is no multiple of 42.
+    ListLength,
 }
 
 impl Refusal {
     /// Every refusal, in the order of their numbers.
-    pub const ALL: [Refusal; 17] = [
+    pub const ALL: [Refusal; 18] = [
         Refusal::DrawingLength,
         Refusal::DeviceCount,
         Refusal::CableCount,
@@ -115,9 +119,10 @@ impl Refusal {
         Refusal::OutputLength,
         Refusal::KindCount,
         Refusal::BookLimit,
+        Refusal::ListLength,
     ];
 
-    /// The format's number of a refusal, 1 to 17.
+    /// The format's number of a refusal, 1 to 18.
     pub fn number(self) -> u8 {
         self as u8
     }
@@ -146,6 +151,7 @@ impl Refusal {
             Refusal::OutputLength => "the lent output is too short for the whole answer",
             Refusal::KindCount => "the number of a book's kinds is not 1 to 3",
             Refusal::BookLimit => "a book's size limit is not 1 to 3",
+            Refusal::ListLength => "the length of a list is no multiple of 42",
         }
     }
 
@@ -155,7 +161,7 @@ impl Refusal {
         Some(
             *Refusal::ALL
                 .get(place)
-                .expect("the library returns refusals 1 to 17 only"),
+                .expect("the library returns refusals 1 to 18 only"),
         )
     }
 }
@@ -168,7 +174,7 @@ impl fmt::Display for Refusal {
 
 impl Error for Refusal {}
 
-/// Why a catalogue is turned back, and for refusals 2 to 8 the drawing at fault, counted from 0.
+/// Why a catalogue or the check of a list is turned back, and for refusals 2 to 8 the drawing at fault, counted from 0.
 #[derive(Clone, Copy, Debug, PartialEq, Eq, Hash)]
 pub struct SurveyRefusal {
     /// The reason.
@@ -268,7 +274,11 @@ pub fn catalogue(
     limit: u32,
     output: &mut [u8],
 ) -> Result<usize, SurveyRefusal> {
-    let returned = raw::catalogue(survey, threshold, limit, output);
+    of_survey(raw::catalogue(survey, threshold, limit, output))
+}
+
+/// What a call over a survey returned, taken apart.
+fn of_survey(returned: u64) -> Result<usize, SurveyRefusal> {
     answered(returned).map_err(|refusal| SurveyRefusal {
         refusal,
         drawing: faulty_drawing(refusal, returned),
@@ -279,6 +289,40 @@ pub fn catalogue(
 fn faulty_drawing(refusal: Refusal, returned: u64) -> Option<usize> {
     let in_a_drawing = Refusal::DeviceCount <= refusal && refusal <= Refusal::NotConnected;
     in_a_drawing.then_some((returned >> 40) as usize)
+}
+
+/// Whether a list that was made elsewhere is the catalogue of a survey, byte for byte: the entries that [`catalogue`] writes, one behind another,
+/// and nothing else.
+///
+/// An incomplete list is not, and neither is a longer one; a list without entries is, where nothing is frequent. The bytes of a list are only
+/// compared: whatever they are, there is an answer. The refusals are those of a catalogue without [`Refusal::OutputLength`]; once the survey is
+/// accepted, a list whose length is no multiple of [`ENTRY_BYTES`] is [`Refusal::ListLength`]. Needs as much stack as a catalogue.
+///
+/// ```
+/// let mut drawing = holvreiz::Drawing::new();
+/// let two = drawing.device(2)?;
+/// let one = drawing.device(1)?;
+/// drawing.cable(two, one, 7)?;
+///
+/// // one cable, support 1
+/// let mut list = [0; holvreiz::ENTRY_BYTES];
+/// list[..7].copy_from_slice(&[1, 1, 0, 1, 1, 7, 2]);
+/// assert_eq!(holvreiz::check_list(&drawing.bytes(), 1, 4, &list), Ok(true));
+/// assert_eq!(holvreiz::check_list(&drawing.bytes(), 1, 4, &[]), Ok(false));
+/// # Ok::<(), holvreiz::Refusal>(())
+/// ```
+pub fn check_list(
+    survey: &[u8],
+    threshold: u32,
+    limit: u32,
+    list: &[u8],
+) -> Result<bool, SurveyRefusal> {
+    Ok(of_survey(raw::check_list(survey, threshold, limit, list))? == 1)
+}
+
+/// [`check_list`] for the usual catalogue: patterns of at most 4 cables that drawings of at least 2 cranes contain.
+pub fn check_usual(survey: &[u8], list: &[u8]) -> Result<bool, SurveyRefusal> {
+    Ok(of_survey(raw::check_usual(survey, list))? == 1)
 }
 
 /// Writes the book of all small patterns into `output`, [`ENTRY_BYTES`] for each entry, and gives the number of entries.

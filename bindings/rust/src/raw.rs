@@ -43,6 +43,20 @@ mod linked {
             output: *mut u8,
             output_length: usize,
         ) -> u64;
+        pub fn holvreiz_check_list(
+            survey: *const u8,
+            survey_length: usize,
+            threshold: u32,
+            limit: u32,
+            list: *const u8,
+            list_length: usize,
+        ) -> u64;
+        pub fn holvreiz_check_usual(
+            survey: *const u8,
+            survey_length: usize,
+            list: *const u8,
+            list_length: usize,
+        ) -> u64;
         pub fn holvreiz_book(a: u32, b: u32, limit: u32, output: *mut u8, length: usize) -> u64;
     }
 }
@@ -107,6 +121,27 @@ pub fn catalogue(survey: &[u8], threshold: u32, limit: u32, output: &mut [u8]) -
             output.as_mut_ptr(),
             output.len(),
         )
+    }
+}
+
+/// Whether a list is the catalogue of a survey. Count: 1 yes, 0 no.
+pub fn check_list(survey: &[u8], threshold: u32, limit: u32, list: &[u8]) -> u64 {
+    unsafe {
+        linked::holvreiz_check_list(
+            survey.as_ptr(),
+            survey.len(),
+            threshold,
+            limit,
+            list.as_ptr(),
+            list.len(),
+        )
+    }
+}
+
+/// Whether a list is the usual catalogue of a survey. Count: 1 yes, 0 no.
+pub fn check_usual(survey: &[u8], list: &[u8]) -> u64 {
+    unsafe {
+        linked::holvreiz_check_usual(survey.as_ptr(), survey.len(), list.as_ptr(), list.len())
     }
 }
 

@@ -199,6 +199,87 @@ fn cranes() {
     );
 }
 
+/// The list of the path and the triangle as two cranes: right, wrong and refused.
+#[test]
+fn lists_made_elsewhere() {
+    let survey = [
+        plain(3, &[[0, 1], [1, 2]]),
+        of_crane(plain(3, &[[0, 1], [1, 2], [2, 0]]), 1),
+    ]
+    .concat();
+    let mut list = [9; 3 * holvreiz::ENTRY_BYTES];
+    assert_eq!(holvreiz::catalogue(&survey, 1, 4, &mut list), Ok(3));
+    let (two, last) = list.split_at(2 * holvreiz::ENTRY_BYTES);
+    let check =
+        |threshold, limit, list: &[u8]| holvreiz::check_list(&survey, threshold, limit, list);
+    assert_eq!(check(1, 4, &list), Ok(true));
+    assert_eq!(check(1, 4, two), Ok(false));
+    assert_eq!(check(1, 4, &[&list[..], last].concat()), Ok(false));
+    assert_eq!(check(1, 4, &[255; 3 * holvreiz::ENTRY_BYTES]), Ok(false));
+    let mut support = list;
+    support[1] = 1;
+    assert_eq!(check(1, 4, &support), Ok(false));
+    assert_eq!(check(2, 4, two), Ok(true));
+    assert_eq!(check(1, 2, two), Ok(true));
+    assert_eq!(check(3, 4, &[]), Ok(true));
+    assert_eq!(check(3, 4, two), Ok(false));
+
+    assert_eq!(holvreiz::check_usual(&survey, two), Ok(true));
+    assert_eq!(holvreiz::check_usual(&survey, &list), Ok(false));
+    assert_eq!(holvreiz::check_usual(&survey, &[]), Ok(false));
+    let alone = &survey[..holvreiz::DRAWING_BYTES];
+    assert_eq!(holvreiz::check_usual(alone, &[]), Ok(true));
+}
+
+/// A path of six devices on two cranes has an entry for each number of cables from 1 to 5; its usual list ends with four.
+#[test]
+fn usual_lists() {
+    let path = plain(6, &[[0, 1], [1, 2], [2, 3], [3, 4], [4, 5]]);
+    let survey = [path, of_crane(path, 1)].concat();
+    let mut list = [9; 5 * holvreiz::ENTRY_BYTES];
+    assert_eq!(holvreiz::catalogue(&survey, 2, 5, &mut list), Ok(5));
+    for entries in 0..=5 {
+        let list = &list[..entries * holvreiz::ENTRY_BYTES];
+        assert_eq!(holvreiz::check_usual(&survey, list), Ok(entries == 4));
+        assert_eq!(holvreiz::check_list(&survey, 2, 5, list), Ok(entries == 5));
+    }
+}
+
+/// The settings and the survey are told before the length of the list.
+#[test]
+fn checks_that_are_refused() {
+    let path = plain(3, &[[0, 1], [1, 2]]);
+    let behind = [path, plain(3, &[[0, 1]])].concat();
+    let refused = |refusal, drawing| Err(holvreiz::SurveyRefusal { refusal, drawing });
+    for (survey, threshold, limit, list, refusal, drawing) in [
+        (&path[..], 0, 9, 1, Refusal::Threshold, None),
+        (&path[..], 1, 9, 1, Refusal::SizeLimit, None),
+        (&path[..72], 1, 4, 1, Refusal::DrawingLength, None),
+        (&path[..0], 1, 4, 1, Refusal::SurveyLength, None),
+        (&behind, 1, 4, 1, Refusal::NotConnected, Some(1)),
+        (&path[..], 1, 4, 1, Refusal::ListLength, None),
+        (&path[..], 1, 4, 41, Refusal::ListLength, None),
+        (&path[..], 1, 4, 43, Refusal::ListLength, None),
+    ] {
+        let list = vec![1; list];
+        assert_eq!(
+            holvreiz::check_list(survey, threshold, limit, &list),
+            refused(refusal, drawing)
+        );
+        if (1..=8).contains(&limit) {
+            assert_eq!(
+                holvreiz::check_usual(survey, &list),
+                refused(refusal, drawing)
+            );
+        }
+    }
+    let refused = holvreiz::check_usual(&path, &[1]).unwrap_err();
+    assert_eq!(
+        refused.to_string(),
+        "refused 18: the length of a list is no multiple of 42"
+    );
+}
+
 /// Every call of devices without cables.
 #[test]
 fn lone_devices() {
@@ -257,6 +338,12 @@ fn lone_devices() {
     assert_eq!(entries, [9; 2 * holvreiz::ENTRY_BYTES]);
     assert_eq!(holvreiz::catalogue(&survey, 1, 1, &mut entries), Ok(1));
     assert_eq!(entries[..7], [1, 1, 0, 1, 1, 5, 1]);
+    let alone = &survey[..2 * holvreiz::DRAWING_BYTES];
+    assert_eq!(holvreiz::check_list(alone, 1, 8, &[]), Ok(true));
+    assert_eq!(
+        holvreiz::check_list(alone, 1, 8, &entries[holvreiz::ENTRY_BYTES..]),
+        Ok(false)
+    );
 }
 
 #[test]
@@ -308,4 +395,5 @@ fn refusals_have_the_numbers_of_the_format() {
         Refusal::BookLimit.to_string(),
         "refused 17: a book's size limit is not 1 to 3"
     );
+    assert_eq!(Refusal::ListLength.number(), 18);
 }

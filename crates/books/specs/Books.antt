@@ -9,7 +9,7 @@ use Rattle.laws.specs.Counting.{below, below-has}
 use Rattle.codes.specs.Code.{Rec, kinds-before}
 use Rattle.codes.specs.CodeOrder.{kinds-order, rec-eq}
 use Rattle.growth.specs.Catalogue.{Entry}
-use Rattle.growth.specs.Family.{Listable}
+use Rattle.growth.specs.Family.{Listable, Family}
 use Rattle.growth.specs.FamilyLaws.{listable-prefix}
 use Rattle.growth.specs.FamilyLists.{list-exists, list-unique}
 use Rattle.books.specs.Book.{Small, unsupported, Book, Book-there}
@@ -38,10 +38,12 @@ small-among a b γ e rest f =
     (each-has (below b) _ (below-has b (e .c) (l .along))
     (each-has (below a) _ (below-has a (e .kj) (l .to)) (Mem.here (rec-eq _ e refl refl refl refl refl))))))
 
+-- so small patterns can be listed
+pub small-family : (a b : ℕ) → Family kinds-before (Small a b)
+small-family a b = record { closed = small-closed a b; decided = small-decided a b; next = λ γ. small-records a b; all = small-among a b }
+
 pub book-exists : (a b l : ℕ) → (es : List Entry) × Book a b l es
-book-exists a b l =
-    list-exists kinds-before kinds-order (Small a b) unsupported l (small-closed a b) unsupported-kept (small-decided a b) (λ γ. small-records a b)
-    (small-among a b)
+book-exists a b l = list-exists kinds-before kinds-order (Small a b) unsupported l (small-family a b) unsupported-kept
 
 pub book-unique : (a b l : ℕ) (es gs : List Entry) → Book a b l es → Book a b l gs → es ≡ gs
 book-unique a b l = list-unique kinds-before kinds-order (Small a b) unsupported l

@@ -1,7 +1,7 @@
 -- The numbered records rise, and each record within the bounds has a number. Rests on RecordOrder. Assumes nothing.
 use mathlib.Core.Path.{_≡_, sym, ap, _∙_, subst}
 use mathlib.Core.Bool.{true}
-use mathlib.Core.List.{[], _∷_}
+use mathlib.Core.List.{List, [], _∷_, _++_, append-nil, append-assoc}
 use mathlib.Core.Logic.{_⊎_, inl, inr}
 use Prim.Native.Nat.{ℕ, zero, suc, _+_, _*_, _-_, _/_, _%_, _≤_, _<_}
 use native.Mathlib.Omega.{arith}
@@ -9,6 +9,7 @@ use native.Mathlib.Decide.{decLt}
 use borrow.Author.Tests.{lt-ltb, le-ltb, eq-eqb}
 use Rattle.laws.specs.Lists.{Mem, snoc, mem-front, mem-back, mem-cases}
 use Rattle.laws.specs.Selections.{mem-one}
+use Rattle.laws.specs.Rising.{Rises, rises-nil, rises-cons, rises-append, rises-apart, rises-back}
 use Rattle.codes.specs.Code.{Rec, forward, kinds-before, rec-before-by}
 use Rattle.codes.specs.CodeOrder.{rec-eq}
 use Rattle.growth.specs.RecordOrder.{lower-backward-first, deeper-forward-first, same-backward-first, same-forward-first}
@@ -118,7 +119,7 @@ numbered-next n k = rw add-one
     add-one : k + 1 ≡ suc k
     add-one = omega arith
 
-pub numbered-from : (n k : ℕ) {x : Rec} → Mem x (numbered-below n k) → (t : ℕ) × (t < k) × (numbered n t ≡ x)
+numbered-from : (n k : ℕ) {x : Rec} → Mem x (numbered-below n k) → (t : ℕ) × (t < k) × (numbered n t ≡ x)
 unfolding numbered-below
 numbered-from n zero m = elim m [ ]
 numbered-from n (suc k) {x} m = go (numbered-from n k) (mem-cases (numbered-below n k) m)
@@ -145,6 +146,59 @@ pub numbered-earlier : (n k : ℕ) → 1 ≤ n → k < next-count n → (x : Rec
 numbered-earlier n k one low x m =
     let w = numbered-from n k m in
     subst (λ (y : Rec). rec-before-by kinds-before y (numbered n k) ≡ true) (w .2) (numbered-rise n (w .0) k one (w .1) low)
+
+-- so they rise
+numbered-rises : (n k : ℕ) → 1 ≤ n → k ≤ next-count n → Rises (rec-before-by kinds-before) (numbered-below n k)
+unfolding numbered-below
+numbered-rises n zero one low = rises-nil (rec-before-by kinds-before)
+numbered-rises n (suc k) one low =
+    rises-append (rec-before-by kinds-before) (numbered-below n k) (numbered n k ∷ []) (numbered-rises n k one (omega arith))
+    (rises-cons (rec-before-by kinds-before) (numbered n k) [] (λ y m. elim m [ ]) (rises-nil (rec-before-by kinds-before)))
+    (λ x y p q. subst (λ (z : Rec). rec-before-by kinds-before x z ≡ true) (mem-one q) (numbered-earlier n k one (omega arith) x p))
+
+-- WHAT IS LEFT when number k was walked
+pub record Numbered-rest (n k : ℕ) : Type 0 where
+  pub rest : List Rec
+  pub whole : numbered-below n (next-count n) ≡ snoc (numbered-below n k) (numbered n k) ++ rest
+  pub rise : Rises (rec-before-by kinds-before) rest
+  pub apart : (x y : Rec) → Mem x (snoc (numbered-below n k) (numbered n k)) → Mem y rest → rec-before-by kinds-before x y ≡ true
+
+-- those from number k on
+numbered-more : (n k t : ℕ) → (rest : List Rec) × (numbered-below n (k + t) ≡ numbered-below n k ++ rest)
+numbered-more n k zero = ([], ap (numbered-below n) none ∙ sym (append-nil (numbered-below n k)))
+  where
+    none : k + zero ≡ k
+    none = omega arith
+numbered-more n k (suc t) = go (numbered-more n k t)
+  where
+    one-more : k + suc t ≡ k + t + 1
+    one-more = omega arith
+
+    go : (rest : List Rec) × (numbered-below n (k + t) ≡ numbered-below n k ++ rest)
+        → (rest : List Rec) × (numbered-below n (k + suc t) ≡ numbered-below n k ++ rest)
+    go (rest, e) = (
+      snoc rest (numbered n (k + t)),
+      ap (numbered-below n) one-more ∙ numbered-next n (k + t) ∙ ap (λ (xs : List Rec). snoc xs (numbered n (k + t))) e
+          ∙ append-assoc (numbered-below n k) rest (numbered n (k + t) ∷ []),
+    )
+
+pub numbered-split : (n k : ℕ) → 1 ≤ n → k < next-count n → Numbered-rest n k
+numbered-split n k one low = go (numbered-more n (k + 1) (next-count n - (k + 1)))
+  where
+    all : k + 1 + (next-count n - (k + 1)) ≡ next-count n
+    all = omega arith
+
+    go : (rest : List Rec) × (numbered-below n (k + 1 + (next-count n - (k + 1))) ≡ numbered-below n (k + 1) ++ rest) → Numbered-rest n k
+    go (rest, e) =
+        let whole : numbered-below n (next-count n) ≡ snoc (numbered-below n k) (numbered n k) ++ rest =
+        sym (ap (numbered-below n) all) ∙ e ∙ ap (λ (xs : List Rec). xs ++ rest) (numbered-next n k) in
+        let rises = subst (Rises (rec-before-by kinds-before)) whole (numbered-rises n (next-count n) one (omega arith)) in
+        record {
+          rest = rest;
+          whole = whole;
+          rise = rises-back (rec-before-by kinds-before) (snoc (numbered-below n k) (numbered n k)) rest rises;
+          apart = rises-apart (rec-before-by kinds-before) (snoc (numbered-below n k) (numbered n k)) rest rises;
+        }
 
 -- EACH RECORD of a step with labels below 3 has a number
 pub step-numbered :

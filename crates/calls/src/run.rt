@@ -4,10 +4,12 @@ use crate::book::write_kinds;
 use drawing_calls::ask::ask;
 use drawing_calls::write::write_one;
 use survey_calls::catalogue::write_entries;
+use survey_calls::check::ask_list;
 use survey_calls::fetch::fetch_listed;
 use transcript::answer::Answer;
 use transcript::bytes::two_bytes;
 use transcript::call::BOOK;
+use transcript::call::CHECK_LIST;
 use transcript::call::FETCH;
 use transcript::call::WRITE_CATALOGUE;
 use transcript::print::print_answer;
@@ -47,7 +49,19 @@ fn run_lent(settings: &[u8], name: &[u8], first: &[u8], second: &[u8], output: &
     }
 }
 
-// The second argument of the reader's call is the numbers of three drawings.
+// Makes a call that checks a list, and prints the answer.
+fn run_check(settings: &[u8], name: &[u8], survey: &[u8], list: &[u8]) {
+    let answer = ask_list(
+        two_bytes(settings, 0),
+        survey,
+        two_bytes(settings, 2),
+        two_bytes(settings, 4),
+        list,
+    );
+    print_answer(name, answer);
+}
+
+// The second argument of the reader's call is the numbers of three drawings, that of a check the list.
 pub fn run_call(settings: &[u8], name: &[u8], first: &[u8], second: &[u8]) {
     let call = two_bytes(settings, 0);
     if call < FETCH {
@@ -55,6 +69,8 @@ pub fn run_call(settings: &[u8], name: &[u8], first: &[u8], second: &[u8]) {
     } else if call == FETCH {
         io::write_all(1, name);
         fetch_listed(first, second);
+    } else if CHECK_LIST <= call {
+        run_check(settings, name, first, second);
     } else {
         let mut output = [LENT; ROOM];
         run_lent(settings, name, first, second, &mut output);

@@ -19,9 +19,9 @@ use Rattle.records.specs.declared.catalogued.Catalogued.{Catalogued}
 use Rattle.records.specs.declared.catalogued.Catalogued.the-variants.{Entries, Refused}
 use Rattle.records.specs.Catalogued.{catalogued-refusal, catalogued-count}
 use Rattle.entries.specs.Written.{Entries-written, List-as, List-says}
-use Rattle.holvreiz.specs.Packed.{packed}
+use Rattle.answer_numbers.specs.Packed.{packed}
 use Rattle.records.specs.Refusals.{number-small}
-use Rattle.holvreiz.specs.PackedLaws.{Tells, packed-tells}
+use Rattle.answer_numbers.specs.PackedLaws.{Tells, packed-tells}
 use Rattle.holvreiz.specs.Returns.{Catalogue-returns, Book-returns}
 use Rattle.demands.specs.Terms.{List-refused, List-returned, Catalogue-returned, Book-returned}
 use Rattle.demands.specs.RefusedLaws.{list-turned-back}
@@ -57,7 +57,7 @@ module _ (f : surveys.Refusal) (Wanted : Drawing → Type 0) (figure : Drawing �
     tells : Tells x (catalogued-refusal r .number) (catalogued-count r) (catalogued-refusal r .drawing)
     tells = rw is (packed-tells _ _ _ (omega (arith, refusal-small r)) (omega (arith, counted-most r o z says)))
       where
-        refusal-small : (r : Catalogued) → catalogued-refusal r .number ≤ 17
+        refusal-small : (r : Catalogued) → catalogued-refusal r .number ≤ 18
         refusal-small (Entries n) = unfold surveys.refusal in lit≤ tt
         refusal-small (Refused r d) = unfold surveys.refusal in number-small r
 

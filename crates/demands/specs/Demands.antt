@@ -1,16 +1,17 @@
--- THE THREE DEMANDS, and the rules of matching, of the order, of lone sections, of cranes and of the book: each a record of statements over the
--- bytes that a caller sees, and a theorem that proves it. A statement's hypothesis is what the contract of a public entry says of its answer:
--- `Code-says`, `Decode-says`, `Catalogue-says` and so on, from C `Code-returns` and its fellows. It holds of whatever the call answers (r, v or
--- t), where the lent output was o before the call and is z after it. Terms.antt has the terms that only these statements need. That an answer and
--- every lent byte follow from the input is in Determined.antt. Assumes nothing.
+-- THE THREE DEMANDS, and the rules of matching, of the order, of lone sections, of cranes, of the book and of lists made elsewhere: each a record
+-- of statements over the bytes that a caller sees, and a theorem that proves it. A statement's hypothesis is what the contract of a public entry
+-- says of its answer: `Code-says`, `Decode-says`, `Catalogue-says` and so on, from C `Code-returns` and its fellows. It holds of whatever the call
+-- answers (r, v or t), where the lent output was o before the call and is z after it. Terms.antt has the terms that only these statements need.
+-- That an answer and every lent byte follow from the input is in Determined.antt. Assumes nothing.
 use mathlib.Core.Path.{_≡_}
 use mathlib.Core.Bool.{true, false, cond}
 use mathlib.Core.List.{List, [], _∷_, _++_}
-use Prim.Native.Nat.{ℕ, _*_, _≤_, _<_}
+use Prim.Native.Nat.{ℕ, _*_, _/_, _%_, _≤_, _<_}
 use lib.Dec.{eqb}
-use lib.ListN.{length, getD}
+use lib.ListN.{length, getD, replicate}
 use denote.Ref.{RefT}
 use Rattle.laws.specs.Counting.{Different}
+use Rattle.laws.specs.Lent.{in-front}
 use Rattle.graphs.specs.Drawing.{
   Drawing,
   devices,
@@ -24,7 +25,7 @@ use Rattle.graphs.specs.Drawing.{
 }
 use Rattle.graphs.specs.Graph.{Section, lone-drawing}
 use Rattle.graphs.specs.DrawingBytes.{drawing-in-bytes, crane-in-bytes, drawing-bytes-in, drawing-bytes-accepted}
-use Rattle.graphs.specs.Survey.{survey, cranes, length-refusal, bytes-refusal}
+use Rattle.graphs.specs.Survey.{survey, cranes, length-refusal, bytes-refusal, survey-refusal}
 use Rattle.codes.specs.Code.{Rec, fresh, rows-refusal, rec-bytes, code-records, before}
 use Rattle.codes.specs.SectionCode.{
   lone-bytes,
@@ -42,7 +43,12 @@ use Rattle.records.specs.declared.refusal.Checked.{Checked}
 use Rattle.records.specs.declared.refusal.Checked.the-variants.{Accepted, Refused}
 use Rattle.records.specs.declared.survey.SurveyChecked.{SurveyChecked}
 use Rattle.records.specs.declared.catalogued.Catalogued.{Catalogued}
+use Rattle.records.specs.declared.catalogued.Catalogued.the-variants as catalogued
 use Rattle.records.specs.declared.catalogued.Catalogued.the-variants.{Entries}
+use Rattle.records.specs.Catalogued.{catalogued-refusal}
+use Rattle.records.specs.declared.list_checked.ListChecked.{ListChecked}
+use Rattle.records.specs.declared.list_checked.ListChecked.the-variants as list-check
+use Rattle.records.specs.ListsChecked.{list-refusal}
 use Rattle.records.specs.Refusals.{checked-number, first-of}
 use Rattle.records.specs.Surveys.{Survey-answer}
 use Rattle.code_checks.specs.SectionChecks.{section-code-checked}
@@ -64,6 +70,7 @@ use Rattle.matching.specs.declared.answer.Sameness.{Sameness}
 use Rattle.matching.specs.declared.answer.Sameness.the-variants as sameness
 use Rattle.matching.specs.MatchAnswers.{match-refusal, match-count, same-refusal, same-value, Match-says, Same-says}
 use Rattle.mining.specs.CatalogueSays.{Catalogue-says}
+use Rattle.mining.specs.CheckSays.{Check-says}
 use Rattle.books.specs.Book.{Book-there}
 use Rattle.books.specs.Books.{book-there}
 use Rattle.pattern_book.specs.BookSays.{Book-says}
@@ -79,9 +86,11 @@ use Rattle.holvreiz.specs.Returns.{
   Same-returns,
   Catalogue-returns,
   Book-returns,
+  Check-returns,
 }
 use Rattle.demands.specs.Terms.{
   written-bytes,
+  written-entries,
   too-short,
   Refused-as,
   Survey-refused,
@@ -92,6 +101,8 @@ use Rattle.demands.specs.Terms.{
   Catalogue-returned,
   Book-refused,
   Book-returned,
+  Check-refused,
+  Check-returned,
   Mapped,
   Drawn,
   Order-clauses,
@@ -128,6 +139,7 @@ use Rattle.demands.specs.Comparisons as comparisons
 use Rattle.demands.specs.OrderClauses.{order-clauses}
 use Rattle.demands.specs.LoneRules as lone
 use Rattle.demands.specs.LoneSurveys.{supports-none, survey-empty, lone-adds-none}
+use Rattle.demands.specs.CheckRules as checks
 
 -- THE FIRST DEMAND: every public entry, on any bytes of any length, gives its answer or the one refusal of the paper's table: the first
 -- place that applies, from the top, of two drawings or codes the first one's before the second's. A refusal writes nothing; only
@@ -162,6 +174,8 @@ pub record First-demand : Type 0 where
   pub catalogue : (bs : List ℕ) (s l : ℕ) (r : Catalogued) (o z : List ℕ) → Catalogue-says bs s l r o z → Catalogue-refused bs s l r o z
   -- 16, 17; then 15 exactly if the entries of the book do not fit
   pub book : (a b l : ℕ) (r : Catalogued) (o z : List ℕ) → Book-says a b l r o z → Book-refused a b l r o z
+  -- what a catalogue refuses but 15, then 18 exactly if the list is not made of whole entries; the usual check is this at 2 and 4
+  pub check-list : (bs : List ℕ) (s l : ℕ) (list : List ℕ) (r : ListChecked) → Check-says bs s l list r → Check-refused bs s l list r
   -- the text of an answer has no refusal of the paper: it is made whole or not at all
   pub text : (a : Catalogued) (es : List ℕ) (r : Printed) (o z : List ℕ) → Text-says a es r o z → Text-made (text-of a es) r o z
   -- the same from C: refusal, count and drawing stand in the number that is returned
@@ -179,6 +193,7 @@ pub record First-demand : Type 0 where
       → Returned-as (first-of (drawing-refusal xs) (drawing-refusal ys)) x (same-value (c .answer)) [] []
   pub c-catalogue : (bs : List ℕ) (s l x : ℕ) (o z : List ℕ) → Catalogue-returns bs s l x o z → Catalogue-returned bs s l x o z
   pub c-book : (a b l x : ℕ) (o z : List ℕ) → Book-returns a b l x o z → Book-returned a b l x o z
+  pub c-check-list : (bs : List ℕ) (s l : ℕ) (list : List ℕ) (x : ℕ) → Check-returns bs s l list x → Check-returned bs s l list x
 
 pub first-demand : First-demand
 first-demand =
@@ -196,6 +211,7 @@ first-demand =
       same = refused.same-turned-back;
       catalogue = refused.catalogue-turned-back;
       book = refused.book-turned-back;
+      check-list = checks.check-list-refused;
       text = entries.text-made;
       c-code = entries.c-code-refused;
       c-decode = entries.c-decode-refused;
@@ -205,6 +221,7 @@ first-demand =
       c-same = entries.c-same-refused;
       c-catalogue = c-catalogue-refused;
       c-book = c-book-refused;
+      c-check-list = checks.c-check-list-refused;
     }
 
 -- A CALL OF CODING with an accepted drawing and bytes enough; one of decoding with an accepted code and bytes enough
@@ -452,3 +469,46 @@ pub record Book-rule : Type 0 where
 
 pub book-rule : Book-rule
 book-rule = record { whole = whole-book; there = book-there }
+
+-- THE RULE OF LISTS MADE ELSEWHERE: the check of a list agrees with the call that writes the catalogue, on every input
+pub record Check-rule : Type 0 where
+  -- what that call wrote to its end is answered yes, and every other list no, or 18 where it is not made of whole entries
+  pub written-yes : (bs : List ℕ) (s l n : ℕ) (o z : List ℕ) → Catalogue-says bs s l (Entries n) o z
+      → (r : ListChecked) → Check-says bs s l (written-entries n z) r → r ≡ list-check.Yes
+  pub other-no : (bs : List ℕ) (s l n : ℕ) (o z : List ℕ) → Catalogue-says bs s l (Entries n) o z
+      → (list : List ℕ) → (list ≡ written-entries n z → ⊥) → (r : ListChecked) → Check-says bs s l list r
+      → (length list % 42 ≡ 0 → r ≡ list-check.No) × ((length list % 42 ≡ 0 → ⊥) → r ≡ list-check.Refused refusal.ListLength 0)
+  -- a list that is answered yes is what it writes if there is room, and 15 if there is none
+  pub yes-written : (bs : List ℕ) (s l : ℕ) (list : List ℕ) → Check-says bs s l list list-check.Yes
+      → (r : Catalogued) (o z : List ℕ) → Catalogue-says bs s l r o z → length list ≤ length o
+      → (r ≡ Entries (length list / 42)) × (z ≡ in-front list o)
+  pub yes-no-room : (bs : List ℕ) (s l : ℕ) (list : List ℕ) → Check-says bs s l list list-check.Yes
+      → (r : Catalogued) (o z : List ℕ) → Catalogue-says bs s l r o z → length o < length list
+      → (r ≡ catalogued.Refused refusal.OutputLength 0) × (z ≡ replicate (length o) 0)
+  -- what it refuses, but 15, the check refuses alike, whatever the list
+  pub refused-alike : (bs : List ℕ) (s l : ℕ) (list : List ℕ) (r : Catalogued) (t : ListChecked) (o z : List ℕ)
+      → 0 < survey-refusal bs s l .number → Catalogue-says bs s l r o z → Check-says bs s l list t → list-refusal t ≡ catalogued-refusal r
+  -- no two lists are answered yes
+  pub one-yes : (bs : List ℕ) (s l : ℕ) (xs ys : List ℕ) → Check-says bs s l xs list-check.Yes → Check-says bs s l ys list-check.Yes → xs ≡ ys
+  -- so a right list that is cut short, or has entries behind it, is a no
+  pub cut-short : (bs : List ℕ) (s l : ℕ) (xs ys : List ℕ) → Check-says bs s l (xs ++ ys) list-check.Yes → 0 < length ys → length xs % 42 ≡ 0
+      → (r : ListChecked) → Check-says bs s l xs r → r ≡ list-check.No
+  pub with-more : (bs : List ℕ) (s l : ℕ) (xs ys : List ℕ) → Check-says bs s l xs list-check.Yes → 0 < length ys → length ys % 42 ≡ 0
+      → (r : ListChecked) → Check-says bs s l (xs ++ ys) r → r ≡ list-check.No
+  -- the empty list is right exactly if the catalogue has no entry
+  pub empty : (bs : List ℕ) (s l n : ℕ) (o z : List ℕ) → Catalogue-says bs s l (Entries n) o z → (r : ListChecked) → Check-says bs s l [] r
+      → (r ≡ list-check.Yes → n ≡ 0) × (n ≡ 0 → r ≡ list-check.Yes)
+
+pub check-rule : Check-rule
+check-rule =
+    record {
+      written-yes = checks.written-yes;
+      other-no = checks.other-no;
+      yes-written = checks.yes-written;
+      yes-no-room = checks.yes-no-room;
+      refused-alike = checks.check-alike;
+      one-yes = checks.one-yes;
+      cut-short = checks.cut-short;
+      with-more = checks.with-more;
+      empty = checks.empty-list;
+    }

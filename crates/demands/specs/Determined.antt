@@ -17,12 +17,12 @@ use Rattle.laws.specs.Rows.{row}
 use Rattle.graphs.specs.Drawing.{Drawing, devices, drawing-in, drawing-refusal}
 use Rattle.graphs.specs.Map.{least-map}
 use Rattle.graphs.specs.Survey as surveys
-use Rattle.graphs.specs.Survey.{survey, length-refusal, bytes-refusal, survey-refusal, drawing-count}
+use Rattle.graphs.specs.Survey.{length-refusal, bytes-refusal, survey-refusal, drawing-count}
 use Rattle.codes.specs.Code.{Rec, code-records, kinds-before}
 use Rattle.codes.specs.CodeOrder.{kinds-order}
 use Rattle.codes.specs.SectionCodes.{least-section-unique}
 use Rattle.codes.specs.SectionCode.{section-records}
-use Rattle.growth.specs.Catalogue.{Entry, Often-in, support-of}
+use Rattle.growth.specs.Catalogue.{Entry, all-bytes, Often-in, support-of}
 use Rattle.growth.specs.FamilyLists.{list-unique}
 use Rattle.books.specs.Book.{Small, unsupported, book-refusal}
 use Rattle.records.specs.declared.refusal.Refusal.{Refusal}
@@ -35,6 +35,9 @@ use Rattle.records.specs.Surveys.{survey-checked, Survey-answer}
 use Rattle.records.specs.declared.catalogued.Catalogued.{Catalogued}
 use Rattle.records.specs.declared.catalogued.Catalogued.the-variants.{Entries, Refused}
 use Rattle.records.specs.Catalogued.{catalogued-refusal, catalogued-count}
+use Rattle.records.specs.declared.list_checked.ListChecked.{ListChecked}
+use Rattle.records.specs.declared.list_checked.ListChecked.the-variants as list-check
+use Rattle.records.specs.ListsChecked.{list-refusal, list-value}
 use Rattle.code_checks.specs.declared.answer.Written.{Written}
 use Rattle.code_checks.specs.declared.answer.Written.the-variants as written
 use Rattle.code_checks.specs.declared.answer.Verdict.{Verdict}
@@ -63,6 +66,7 @@ use Rattle.matching.specs.MatchAnswers.{
 use Rattle.entries.specs.Written as says
 use Rattle.entries.specs.Written.{List-as, List-says}
 use Rattle.mining.specs.CatalogueSays.{Catalogue-says}
+use Rattle.mining.specs.CheckSays.{Told-by, check-refusal, Check-as, Check-says}
 use Rattle.pattern_book.specs.BookSays.{Book-says}
 use Rattle.reader.specs.declared.reader.Opened.{Opened}
 use Rattle.reader.specs.declared.reader.Fetched.{Fetched}
@@ -71,7 +75,7 @@ use Rattle.reader.specs.ReaderLaws.{refused-fetch, fetch-past, fetched-drawing}
 use Rattle.printing.specs.declared.answer.Printed.{Printed}
 use Rattle.text_lines.specs.Texts.{text-of}
 use Rattle.printing.specs.Says.{Made, Text-says}
-use Rattle.holvreiz.specs.Packed.{packed, packed-numbers}
+use Rattle.answer_numbers.specs.Packed.{packed, packed-numbers}
 use Rattle.holvreiz.specs.Returns.{
   Code-returns,
   Decode-returns,
@@ -81,6 +85,7 @@ use Rattle.holvreiz.specs.Returns.{
   Same-returns,
   Catalogue-returns,
   Book-returns,
+  Check-returns,
 }
 use Rattle.demands.specs.RefusalCases.{
   Plain,
@@ -92,6 +97,7 @@ use Rattle.demands.specs.RefusalCases.{
   length-plain,
   bytes-plain,
   survey-plain,
+  list-plain,
   book-plain,
 }
 
@@ -102,6 +108,16 @@ Agree r s z w = (r ≡ s) × (z ≡ w)
 -- two refusals with one number that names no record are one
 one-case : (n : ℕ) → Plain n → (x y : Refusal) → number-of x ≡ n → number-of y ≡ n → x ≡ y
 one-case n p x y e f = number-tells-case x y (rw e p) (e ∙ sym f)
+
+-- with one drawing at fault, whatever they are the refusals of
+one-refusal :
+    {A : Type 0} (refused : Refusal → ℕ → A) (f : surveys.Refusal) → Plain (f .number) → (x y : Refusal) (c d : ℕ)
+    → surveys.refusal (number-of x) c ≡ f → surveys.refusal (number-of y) d ≡ f → refused x c ≡ refused y d
+unfolding surveys.refusal
+one-refusal refused f p x y c d e g =
+    ap₂ refused
+    (one-case (f .number) p x y (ap (λ (z : surveys.Refusal). z .number) e) (ap (λ (z : surveys.Refusal). z .number) g))
+    (ap (λ (z : surveys.Refusal). z .drawing) (e ∙ sym g))
 
 -- CHECKS of a drawing, a survey's length, a survey, a code
 one-check : (n : ℕ) → Plain n → (c d : Checked) → checked-number c ≡ n → checked-number d ≡ n → c ≡ d
@@ -137,8 +153,7 @@ check-survey-determined bs r s a b = go r s refl refl (a .refusal) (b .refusal)
     go (survey-check.Refused x c) (survey-check.Accepted n) p q e g =
         absurd (omega (arith, ap number-at e, ap number-at g, number-positive x))
     go (survey-check.Refused x c) (survey-check.Refused y d) p q e g =
-        ap₂ survey-check.Refused (one-case (f .number) (bytes-plain bs) x y (ap number-at e) (ap number-at g))
-        (ap (λ (z : surveys.Refusal). z .drawing) (e ∙ sym g))
+        one-refusal survey-check.Refused f (bytes-plain bs) x y c d e g
 
 pub check-code-determined : (bs : List ℕ) (c d : Checked) → c ≡ section-code-checked bs → d ≡ section-code-checked bs → c ≡ d
 check-code-determined bs c d e f = e ∙ sym f
@@ -240,10 +255,7 @@ catalogued-case :
 unfolding surveys.refusal
 catalogued-case f n m p (Entries k) s e g = absurd (omega (arith, m, ap (λ (x : surveys.Refusal). x .number) e))
 catalogued-case f n m p (Refused x c) (Entries k) e g = absurd (omega (arith, m, ap (λ (x : surveys.Refusal). x .number) g))
-catalogued-case f n m p (Refused x c) (Refused y d) e g =
-    ap₂ Refused
-    (one-case (f .number) p x y (ap (λ (z : surveys.Refusal). z .number) e) (ap (λ (z : surveys.Refusal). z .number) g))
-    (ap (λ (z : surveys.Refusal). z .drawing) (e ∙ sym g))
+catalogued-case f n m p (Refused x c) (Refused y d) e g = one-refusal Refused f p x y c d e g
 
 entries-determined :
     (t : Bool) (es : List Entry) (o z w : List ℕ) (r s : Catalogued) → says.Entries-written t es r o z → says.Entries-written t es s o w
@@ -272,6 +284,39 @@ pub book-determined :
     (a b l : ℕ) (o z w : List ℕ) (r s : Catalogued) → Book-says a b l r o z → Book-says a b l s o w → Agree r s z w
 unfolding surveys.refusal
 book-determined a b l = list-determined (surveys.refusal (book-refusal a b l) 0) (book-plain a b l) (Small a b) unsupported l
+
+-- A LIST THAT IS CHECKED
+list-case :
+    (f : surveys.Refusal) (n : ℕ) → f .number ≡ suc n → Plain (f .number) → (r t : ListChecked) → list-refusal r ≡ f → list-refusal t ≡ f → r ≡ t
+unfolding surveys.refusal
+list-case f n m p list-check.Yes t e g = absurd (omega (arith, m, ap (λ (x : surveys.Refusal). x .number) e))
+list-case f n m p list-check.No t e g = absurd (omega (arith, m, ap (λ (x : surveys.Refusal). x .number) e))
+list-case f n m p (list-check.Refused x c) list-check.Yes e g = absurd (omega (arith, m, ap (λ (x : surveys.Refusal). x .number) g))
+list-case f n m p (list-check.Refused x c) list-check.No e g = absurd (omega (arith, m, ap (λ (x : surveys.Refusal). x .number) g))
+list-case f n m p (list-check.Refused x c) (list-check.Refused y d) e g = one-refusal list-check.Refused f p x y c d e g
+
+-- what tells whether one thing holds is one answer
+told-once : (A : Type 0) (r t : ListChecked) → Told-by r A → Told-by t A → r ≡ t
+told-once A list-check.Yes list-check.Yes a b = refl
+told-once A list-check.Yes list-check.No a b = absurd (b a)
+told-once A list-check.Yes (list-check.Refused y d) a b = absurd b
+told-once A list-check.No list-check.Yes a b = absurd (a b)
+told-once A list-check.No list-check.No a b = refl
+told-once A list-check.No (list-check.Refused y d) a b = absurd b
+told-once A (list-check.Refused x c) t a b = absurd a
+
+pub check-list-determined :
+    (bs : List ℕ) (s l : ℕ) (list : List ℕ) (r t : ListChecked) → Check-says bs s l list r → Check-says bs s l list t → r ≡ t
+check-list-determined bs s l list r t = go (check-refusal bs s l list .number) refl
+  where
+    f : surveys.Refusal
+    f = check-refusal bs s l list
+
+    go : (n : ℕ) → f .number ≡ n → Check-as n f bs s l list r → Check-as n f bs s l list t → r ≡ t
+    go zero e (es, c, a) (gs, d, b) =
+        let one : gs ≡ es = list-unique kinds-before kinds-order (Often-in bs s) (support-of bs) l gs es d c in
+        told-once (list ≡ all-bytes es) r t a (subst (λ (hs : List Entry). Told-by t (list ≡ all-bytes hs)) one b)
+    go (suc n) e a b = list-case f n e (list-plain bs s l list) r t a b
 
 -- THE TEXT of an answer
 made-determined : (t : Bool) (bs o z w : List ℕ) (r s : Printed) → Made t bs r o z → Made t bs s o w → Agree r s z w
@@ -360,3 +405,11 @@ c-book-determined a b l o z w x y c d =
           ∙ sym (d .number),
       e .1,
     )
+
+pub c-check-list-determined :
+    (bs : List ℕ) (s l : ℕ) (list : List ℕ) (x y : ℕ) → Check-returns bs s l list x → Check-returns bs s l list y → x ≡ y
+c-check-list-determined bs s l list x y a b =
+    a .number
+    ∙ ap (λ (r : ListChecked). packed (list-refusal r .number) (list-value r) (list-refusal r .drawing))
+    (check-list-determined bs s l list (a .answer) (b .answer) (a .says) (b .says))
+    ∙ sym (b .number)

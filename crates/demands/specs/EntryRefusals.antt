@@ -27,7 +27,7 @@ use Rattle.reader.specs.ReaderLaws.{refused-fetch, fetch-past, fetched-drawing}
 use Rattle.printing.specs.declared.answer.Printed.{Printed}
 use Rattle.text_lines.specs.Texts.{text-of}
 use Rattle.printing.specs.Says.{Made, Text-says}
-use Rattle.holvreiz.specs.PackedLaws.{Tells}
+use Rattle.answer_numbers.specs.PackedLaws.{Tells}
 use Rattle.holvreiz.specs.Returns.{
   Code-returns,
   Decode-returns,

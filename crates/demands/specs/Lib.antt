@@ -25,3 +25,4 @@ pub mod OrderClauses
 pub mod LoneRules
 pub mod LoneSurveys
 pub mod CraneRules
+pub mod CheckRules

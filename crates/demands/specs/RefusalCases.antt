@@ -29,8 +29,10 @@ use Rattle.records.specs.declared.refusal.Refusal.the-variants.{
   OutputLength,
   KindCount,
   BookLimit,
+  ListLength,
 }
 use Rattle.records.specs.Refusals.{number-of, first-of}
+use Rattle.mining.specs.CheckSays.{check-refusal}
 
 -- the case of a number, of which the record of a code is not known
 case-of : ℕ → Refusal
@@ -47,7 +49,8 @@ case-of n =
     (cond (eqb n 12) Threshold
     (cond (eqb n 13) SizeLimit
     (cond (eqb n 14) SurveyLength
-    (cond (eqb n 16) KindCount (cond (eqb n 17) BookLimit OutputLength)))))))))))))
+    (cond (eqb n 16) KindCount
+    (cond (eqb n 17) BookLimit (cond (eqb n 18) ListLength OutputLength))))))))))))))
 
 -- no record of a code is named
 pub record Plain (n : ℕ) : Type 0 where
@@ -73,6 +76,7 @@ case-back SurveyLength p = refl
 case-back OutputLength p = refl
 case-back KindCount p = refl
 case-back BookLimit p = refl
+case-back ListLength p = refl
 
 pub number-tells-case : (r s : Refusal) → Plain (number-of r) → number-of r ≡ number-of s → r ≡ s
 number-tells-case r s p e = sym (case-back r p) ∙ ap case-of e ∙ case-back s (rw (sym e) p)
@@ -137,6 +141,13 @@ unfolding survey-refusal surveys.refusal
 survey-plain bs s l =
     either-refusal (not (leb 1 s && leb s 32)) _ _ (plain 12 refl refl)
     (either-refusal (not (leb 1 l && leb l 8)) _ _ (plain 13 refl refl) (bytes-plain bs))
+
+-- of a list that is checked
+pub list-plain : (bs : List ℕ) (s l : ℕ) (list : List ℕ) → Plain (check-refusal bs s l list .number)
+unfolding check-refusal surveys.refusal
+list-plain bs s l list =
+    either-refusal (eqb (survey-refusal bs s l .number) 0) _ _ (either (eqb (length list % 42) 0) (plain 0 refl refl) (plain 18 refl refl))
+    (survey-plain bs s l)
 
 -- of the book
 pub book-plain : (a b l : ℕ) → Plain (book-refusal a b l)

@@ -35,8 +35,8 @@ use Rattle.matching.specs.MatchAnswers.{match-refusal, match-count, same-refusa
 use Rattle.graphs.specs.AcceptedDrawing.{accepted-most}
 use Rattle.matching.specs.Outcomes.{match-answers, written-map}
 use Rattle.records.specs.Refusals.{number-small}
-use Rattle.holvreiz.specs.PackedLaws.{Tells, packed-tells}
-use Rattle.holvreiz.specs.Packed.{packed}
+use Rattle.answer_numbers.specs.PackedLaws.{Tells, packed-tells}
+use Rattle.answer_numbers.specs.Packed.{packed}
 use Rattle.holvreiz.specs.Returns.{
   Code-returns,
   Decode-returns,
@@ -50,11 +50,11 @@ use Rattle.holvreiz.specs.Returns.{
 abbrev Tells-numbers : (x : ℕ) → Numbers → Type 0
 Tells-numbers x n = Tells x (n .refusal) (n .count) 0
 
-returned : {x : ℕ} (n c : ℕ) → x ≡ packed n c 0 → n ≤ 17 → c ≤ 100 → Tells x n c 0
+returned : {x : ℕ} (n c : ℕ) → x ≡ packed n c 0 → n ≤ 18 → c ≤ 100 → Tells x n c 0
 returned n c e h g = rw e (packed-tells n c 0 (omega arith) (omega arith))
 
 -- CODING: at most 20 records
-written-refusal : (r : Written) → written-numbers r .refusal ≤ 17
+written-refusal : (r : Written) → written-numbers r .refusal ≤ 18
 written-refusal (written.Bytes n) = lit≤ tt
 written-refusal (written.Refused x) = number-small x
 
@@ -91,7 +91,7 @@ decode-tells {bs} {x} {o} {z} c =
     returned _ _ (c .number) (written-refusal (c .answer)) (rw (c .says .answer) (decode-count bs o (decode-checked bs o) refl))
 
 -- YES OR NO, and the order of two codes
-verdict-small : (v : Verdict) → (verdict-numbers v .refusal ≤ 17) × (verdict-numbers v .count ≤ 100)
+verdict-small : (v : Verdict) → (verdict-numbers v .refusal ≤ 18) × (verdict-numbers v .count ≤ 100)
 verdict-small verdict.Yes = (lit≤ tt, lit≤ tt)
 verdict-small verdict.No = (lit≤ tt, lit≤ tt)
 verdict-small (verdict.Refused r) = (number-small r, lit≤ tt)
@@ -99,7 +99,7 @@ verdict-small (verdict.Refused r) = (number-small r, lit≤ tt)
 pub least-tells : {bs : List ℕ} {x : ℕ} (c : Least-returns bs x) → Tells-numbers x (verdict-numbers (c .answer))
 least-tells c = let s = verdict-small (c .answer) in returned _ _ (c .number) (s .0) (s .1)
 
-compared-small : (r : Compared) → (compared-numbers r .refusal ≤ 17) × (compared-numbers r .count ≤ 100)
+compared-small : (r : Compared) → (compared-numbers r .refusal ≤ 18) × (compared-numbers r .count ≤ 100)
 compared-small compared.Equal = (lit≤ tt, lit≤ tt)
 compared-small compared.Before = (lit≤ tt, lit≤ tt)
 compared-small compared.After = (lit≤ tt, lit≤ tt)
@@ -109,7 +109,7 @@ pub compare-tells : {xs ys : List ℕ} {x : ℕ} (c : Compare-returns xs ys x) �
 compare-tells c = let s = compared-small (c .answer) in returned _ _ (c .number) (s .0) (s .1)
 
 -- MATCHING: at most 10 devices
-match-small : (xs ys : List ℕ) (r : Matched) (o z : List ℕ) → Match-says xs ys r o z → (match-refusal r ≤ 17) × (match-count r ≤ 100)
+match-small : (xs ys : List ℕ) (r : Matched) (o z : List ℕ) → Match-says xs ys r o z → (match-refusal r ≤ 18) × (match-count r ≤ 100)
 match-small xs ys (matched.Map n) o z s =
     let a = match-answers s refl in
     let w = written-map a n refl in
@@ -121,7 +121,7 @@ pub match-tells :
     {xs ys : List ℕ} {x : ℕ} {o z : List ℕ} (c : Match-returns xs ys x o z) → Tells x (match-refusal (c .answer)) (match-count (c .answer)) 0
 match-tells {xs} {ys} {x} {o} {z} c = let s = match-small xs ys (c .answer) o z (c .says) in returned _ _ (c .number) (s .0) (s .1)
 
-same-small : (r : Sameness) → (same-refusal r ≤ 17) × (same-value r ≤ 100)
+same-small : (r : Sameness) → (same-refusal r ≤ 18) × (same-value r ≤ 100)
 same-small sameness.Yes = (lit≤ tt, lit≤ tt)
 same-small sameness.No = (lit≤ tt, lit≤ tt)
 same-small (sameness.Refused r) = (number-small r, lit≤ tt)

@@ -20,15 +20,18 @@ use Rattle.graphs.specs.Survey as surveys
 use Rattle.graphs.specs.Survey.{survey, cranes, length-refusal, bytes-refusal, survey-refusal, containing, count-true}
 use Rattle.codes.specs.Code.{Rec, recs-in, kinds-before, rec-before, before}
 use Rattle.codes.specs.SectionCode.{section-of, Section-code, Least-section}
-use Rattle.growth.specs.Catalogue.{Entry, entry, List-of, entry-bytes, all-bytes, Often-in, support-of}
+use Rattle.growth.specs.Catalogue.{Entry, entry, List-of, Catalogue, entry-bytes, all-bytes, Often-in, support-of}
 use Rattle.books.specs.Book.{Small, unsupported, book-refusal}
-use Rattle.records.specs.declared.refusal.Refusal.the-variants.{OutputLength}
+use Rattle.records.specs.declared.refusal.Refusal.the-variants.{OutputLength, ListLength}
 use Rattle.code_checks.specs.declared.answer.Written.{Written}
 use Rattle.code_checks.specs.declared.answer.Written.the-variants as written
 use Rattle.laws.specs.Lent.{in-front}
 use Rattle.records.specs.declared.catalogued.Catalogued.{Catalogued}
 use Rattle.records.specs.declared.catalogued.Catalogued.the-variants.{Entries, Refused}
 use Rattle.records.specs.Catalogued.{catalogued-refusal, catalogued-count}
+use Rattle.records.specs.declared.list_checked.ListChecked.{ListChecked}
+use Rattle.records.specs.declared.list_checked.ListChecked.the-variants as list-check
+use Rattle.records.specs.ListsChecked.{list-refusal, list-value}
 use Rattle.records.specs.declared.survey.SurveyChecked.{SurveyChecked}
 use Rattle.records.specs.declared.survey.SurveyChecked.the-variants as survey-check
 use Rattle.records.specs.Refusals.{checked-number}
@@ -43,6 +46,10 @@ use Rattle.printing.specs.declared.answer.Printed.the-variants as printed
 abbrev pub written-bytes : Written → (out-now : List ℕ) → List ℕ
 written-bytes (written.Bytes n) z = take n z
 written-bytes (written.Refused r) z = []
+
+-- and those of the n entries that a catalogue has
+abbrev pub written-entries : (n : ℕ) → (out-now : List ℕ) → List ℕ
+written-entries n z = take (42 * n) z
 
 -- 15: too short for the whole answer
 abbrev pub too-short : (needed : ℕ) → (out : List ℕ) → ℕ
@@ -126,6 +133,33 @@ Book-refused a b l = List-refused (surveys.refusal (book-refusal a b l) 0) (Smal
 
 abbrev pub Book-returned : (a b l x : ℕ) (out out-now : List ℕ) → Type 0
 Book-returned a b l = List-returned (surveys.refusal (book-refusal a b l) 0) (Small a b) unsupported l
+
+-- OF A LIST THAT IS CHECKED: what a catalogue refuses comes first, but 15; then 18 exactly where the list is not made of whole entries; else yes
+-- exactly if it is the bytes of the one catalogue that there is
+pub record Check-refused (bs : List ℕ) (s l : ℕ) (list : List ℕ) (r : ListChecked) : Type 0 where
+  pub early : 0 < survey-refusal bs s l .number → (list-refusal r ≡ survey-refusal bs s l) × (list-value r ≡ 0)
+  pub part-entry : survey-refusal bs s l .number ≡ 0 → (length list % 42 ≡ 0 → ⊥) → r ≡ list-check.Refused ListLength 0
+  pub there : survey-refusal bs s l .number ≡ 0 → (es : List Entry) × Catalogue (cranes bs) (survey bs) s l es
+  pub yes :
+      survey-refusal bs s l .number ≡ 0 → (es : List Entry) → Catalogue (cranes bs) (survey bs) s l es → list ≡ all-bytes es → r ≡ list-check.Yes
+  pub no :
+      survey-refusal bs s l .number ≡ 0 → length list % 42 ≡ 0 → (es : List Entry) → Catalogue (cranes bs) (survey bs) s l es
+      → (list ≡ all-bytes es → ⊥) → r ≡ list-check.No
+
+-- the same from C
+pub record Check-returned (bs : List ℕ) (s l : ℕ) (list : List ℕ) (x : ℕ) : Type 0 where
+  pub early :
+      0 < survey-refusal bs s l .number
+      → (returned-refusal x ≡ survey-refusal bs s l .number) × (returned-drawing x ≡ survey-refusal bs s l .drawing) × (returned-count x ≡ 0)
+  pub part-entry :
+      survey-refusal bs s l .number ≡ 0 → (length list % 42 ≡ 0 → ⊥)
+      → (returned-refusal x ≡ 18) × (returned-drawing x ≡ 0) × (returned-count x ≡ 0)
+  pub yes :
+      survey-refusal bs s l .number ≡ 0 → (es : List Entry) → Catalogue (cranes bs) (survey bs) s l es → list ≡ all-bytes es
+      → (returned-refusal x ≡ 0) × (returned-drawing x ≡ 0) × (returned-count x ≡ 1)
+  pub no :
+      survey-refusal bs s l .number ≡ 0 → length list % 42 ≡ 0 → (es : List Entry) → Catalogue (cranes bs) (survey bs) s l es
+      → (list ≡ all-bytes es → ⊥) → (returned-refusal x ≡ 0) × (returned-drawing x ≡ 0) × (returned-count x ≡ 0)
 
 -- THE MAP OF DEMAND 3, sentence by sentence in `Demand-map`: there is one
 abbrev pub Mapped : (d e : Drawing) → Type 0

@@ -40,7 +40,7 @@ use Rattle.records.specs.declared.catalogued.Catalogued.{Catalogued}
 use Rattle.records.specs.declared.catalogued.Catalogued.the-variants.{Entries, Refused}
 use Rattle.records.specs.Catalogued.{catalogued-count, catalogued-refusal}
 use Rattle.entries.specs.Written.{Entries-written, List-as, List-says}
-use Rattle.entries.specs.WrittenLaws.{all-bytes-length}
+use Rattle.growth.specs.EntryLaws.{all-bytes-length}
 use Rattle.demands.specs.Terms.{entry-in, Entry-for, Whole-list}
 use Rattle.demands.specs.ReadEntries.{bytes-at, entry-at}
 

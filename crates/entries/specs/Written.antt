@@ -1,4 +1,4 @@
--- A list of patterns in the lent bytes: its entries, or 15. Assumes nothing: these are definitions.
+-- A list of patterns in the lent bytes: its entries, or 15; and one that is given. Assumes nothing: these are definitions.
 use mathlib.Core.Path.{_≡_}
 use mathlib.Core.Bool.{Bool, true, false}
 use mathlib.Core.List.{List}
@@ -6,6 +6,7 @@ use Prim.Native.Nat.{ℕ, zero, suc, _*_}
 use lib.Dec.{ltb}
 use lib.ListN.{length, replicate}
 use Rattle.laws.specs.Lent.{in-front}
+use Rattle.laws.specs.Decides.{Decides}
 use Rattle.graphs.specs.Drawing.{Drawing}
 use Rattle.graphs.specs.Survey as surveys
 use Rattle.codes.specs.Code.{kinds-before}
@@ -33,3 +34,7 @@ List-as (suc n) f Wanted figure l r o z = (catalogued-refusal r ≡ f) × (z ≡
 
 abbrev pub List-says : surveys.Refusal → (Wanted : Drawing → Type 0) (figure : Drawing → ℕ) (l : ℕ) → Catalogued → (out out-now : List ℕ) → Type 0
 List-says f = List-as (f .number) f
+
+-- A LIST THAT IS GIVEN is that of the family, byte for byte, or it is not
+abbrev pub List-held : (Wanted : Drawing → Type 0) (figure : Drawing → ℕ) (l : ℕ) (given : List ℕ) → Bool → Type 0
+List-held Wanted figure l given r = (es : List Entry) × List-of kinds-before Wanted figure l es × Decides r (given ≡ all-bytes es)

@@ -33,7 +33,12 @@ fn pad_records(cables: usize, output: &mut [u8])
 
 // Writes the entry of a code of so many cables with so much support. The bytes lent are the entry's own, so it
 // cannot write into another.
-fn write_entry(code: &[u8; Code::BYTES], cables: usize, support: usize, output: &mut [u8])
+pub(crate) fn write_entry(
+    code: &[u8; Code::BYTES],
+    cables: usize,
+    support: usize,
+    output: &mut [u8],
+)
     requires { ⌜ (length (now code) ≡ 100) × (length (now output) ≡ 42) × (cables ≤ 8) × (support ≤ 32) ⌝ }
     ensures { λ _. ⌜ now (output .exit) ≡ entry-bytes (entry support (recs-in cables (now (code .entry)))) ⌝ }
 {

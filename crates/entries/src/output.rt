@@ -1,7 +1,7 @@
-// What stands in the output while a list grows, entry behind entry. The same answer for a catalogue and for the book.
+// What stands in the output while a list grows, entry behind entry. The same answer for a catalogue, written or checked, and for the book.
 
-// How many entries stand in the output, or that the next one does not fit.
+// How many entries stand there, or that the next one cannot: it does not fit, or a list that is checked has another.
 pub enum Growth {
     To(usize),
-    Full,
+    Stopped,
 }

@@ -3,15 +3,13 @@
 use mathlib.Core.Path.{_≡_, refl, sym, ap, _∙_, subst}
 use mathlib.Core.Bool.{Bool, true, false, cond}
 use mathlib.Core.List.{List, [], _∷_, _++_, map}
-use mathlib.Core.Logic.{_⊎_, inl, inr}
 use Prim.Native.Nat.{ℕ, zero, suc, _+_, _-_, _/_, _%_, _^_, _≤_, _<_}
 use native.Mathlib.Nat.{mod-lt}
 use native.Mathlib.Omega.{arith}
 use lib.Dec.{ltb}
 use lib.ListN.{length, getD}
-use Rattle.laws.specs.Lists.{Mem, snoc, snoc-length, mem-map, mem-front, mem-back, mem-cases, map-append, mem-eq}
-use Rattle.laws.specs.Selections.{mem-one}
-use Rattle.laws.specs.Rising.{Rises, rises-apart}
+use Rattle.laws.specs.Lists.{Mem, snoc, snoc-length, mem-map, map-append, mem-eq}
+use Rattle.laws.specs.Rising.{Rises, rises-apart, rises-back}
 use Rattle.graphs.specs.Drawing.{Drawing, is-pattern}
 use Rattle.graphs.specs.Survey.{crane-count}
 use Rattle.codes.specs.Code.{Rec, Reading, kinds-before, rec-before-by, recs-in, rows-refusal, fresh, decoded, Least}
@@ -19,20 +17,19 @@ use Rattle.codes.specs.CodeBytes.{recs-in-length}
 use Rattle.codes.specs.CodeOrder.{kinds-order}
 use Rattle.codes.specs.Greedy.{Greedy}
 use Rattle.growth.specs.Catalogue.{Often-in, support-of}
-use Rattle.growth.specs.Family.{Closed}
+use Rattle.growth.specs.Family.{Family}
 use Rattle.growth.specs.Growth.{Listed-by}
-use Rattle.growth.specs.Frequent.{often-closed, Frequent-in}
+use Rattle.growth.specs.Frequent.{Frequent-in, often-family}
 use Rattle.growth.specs.Places.{Ranks, record-at, record-in-row, crane-cell, candidate-of}
 use Rattle.growth.specs.CellLaws.{candidate-place, candidate-cell, crane-cell-below}
 use Rattle.growth.specs.CountingExtensions.{All-sections}
 use Rattle.growth.specs.Counted.{Extending, rows-extending, first-extending, Candidate, candidate-at, candidate-pattern}
 use Rattle.growth.specs.ListedBy.{place-in, chosen-places, chosen-rise}
-use Rattle.growth.specs.Output.{Ahead}
-use Rattle.growth.specs.Walking.{Gives, Ahead-of, ahead-fewer}
-use Rattle.growth.specs.Listings.{Lists-more}
-use Rattle.growth.specs.ListingLaws.{none-walked, walked-ahead, walked-more, walked-past}
+use Rattle.growth.specs.Walking.{Gives}
+use Rattle.growth.specs.Listings.{Lists-more, Stops}
+use Rattle.growth.specs.ListingLaws.{none-walked, walked-more, walked-past, walked-stopped}
 use Rattle.entries.specs.declared.output.Growth.{Growth}
-use Rattle.entries.specs.declared.output.Growth.the-variants.{To, Full}
+use Rattle.entries.specs.declared.output.Growth.the-variants.{To, Stopped}
 use Rattle.growing.specs.declared.grow.Settings.{Settings}
 use Rattle.walks.specs.LabelMarks.{drawings-of, cranes-of}
 use Rattle.walks.specs.PreparedLaws.{drawings-counted, prepared-few, prepared-sections}
@@ -42,7 +39,6 @@ use Rattle.extending.specs.HeldCode.{basis, Can-read, Code-held, Code-kept}
 use Rattle.extending.specs.HeldCodeLaws.{records-kept, held-kept}
 use Rattle.looking.specs.Looking.{May-come, Hopeless, Can-look-on, Looked-on}
 use Rattle.codes.specs.OwnNumbering.{Well-grown}
-use Rattle.entries.specs.ListOutcomes.{Outcome}
 use Rattle.growing.specs.GrowthOutcomes.{
   Candidate-held,
   Can-grow-pattern,
@@ -87,8 +83,8 @@ module _ {survey labels rank alphabet : List ℕ} {g : Settings} {γ : List Rec}
   abbrev Wanted : List Rec → Type 0
   Wanted = Frequent-in kinds-before survey (g .threshold)
 
-  closed : Closed (Often-in survey (g .threshold))
-  closed = often-closed (cranes-of survey) (drawings-of survey) (g .threshold)
+  family : Family kinds-before (Often-in survey (g .threshold))
+  family = often-family kinds-before kinds-order (cranes-of survey) (drawings-of survey) (g .threshold) (a .set-up .one)
 
   -- the records of the candidates from `from` up to k
   abbrev up-to : ℕ → List Rec
@@ -109,6 +105,18 @@ module _ {survey labels rank alphabet : List ℕ} {g : Settings} {γ : List Rec}
   rising =
       chosen-rise (a .set-up .prepared .ranks) extending (a .counting) (a .set-up .one)
       (chosen-places (cranes-of survey) (a .sets) (g .threshold) (g .labels) (part from top list) sets-few (a .chosen))
+
+  -- those up to k, and those from k on
+  split-at : (k : ℕ) → from ≤ k → k ≤ top
+      → candidates-in kind γ alphabet (g .labels) (part from top list)
+      ≡ candidates-in kind γ alphabet (g .labels) (part from k list) ++ candidates-in kind γ alphabet (g .labels) (part k top list)
+  split-at k low high =
+      let e : k + (top - k) ≡ top = omega arith in
+      ap (candidates-in kind γ alphabet (g .labels))
+      (ap (λ (b : ℕ). part from b list) (sym e) ∙ part-split from k (top - k) list low (omega (arith, within)) ∙ ap
+      (λ (b : ℕ). part from k list ++ part k b list) e)
+      ∙ ap (map (record-at (basis kind γ) alphabet (g .labels))) (map-append place-in (part from k list) (part k top list))
+      ∙ map-append (record-at (basis kind γ) alphabet (g .labels)) (map place-in (part from k list)) (map place-in (part k top list))
 
   -- ONE CANDIDATE
   module _ (k : ℕ) (low : from ≤ k) (high : k < top) (q : ℕ) (there : q ≡ getD list k 0) where
@@ -212,13 +220,7 @@ module _ {survey labels rank alphabet : List ℕ} {g : Settings} {γ : List Rec}
     split : candidates-in kind γ alphabet (g .labels) (part from top list)
         ≡ candidates-in kind γ alphabet (g .labels) (part from k list) ++ candidates-in kind γ alphabet
         (g .labels) (part k top list)
-    split =
-        let e : k + (top - k) ≡ top = omega arith in
-        ap (candidates-in kind γ alphabet (g .labels))
-        (ap (λ (b : ℕ). part from b list) (sym e) ∙ part-split from k (top - k) list low (omega (arith, within)) ∙ ap
-        (λ (b : ℕ). part from k list ++ part k b list) e)
-        ∙ ap (map (record-at (basis kind γ) alphabet (g .labels))) (map-append place-in (part from k list) (part k top list))
-        ∙ map-append (record-at (basis kind γ) alphabet (g .labels)) (map place-in (part from k list)) (map place-in (part k top list))
+    split = split-at k low (omega arith)
 
     own : Mem (record-at (basis kind γ) alphabet (g .labels) (q / (2 ^ 40)))
         (candidates-in kind γ alphabet (g .labels) (part k top list))
@@ -231,15 +233,18 @@ module _ {survey labels rank alphabet : List ℕ} {g : Settings} {γ : List Rec}
         rises-apart (rec-before-by kinds-before) (up-to k) (candidates-in kind γ alphabet (g .labels) (part k top list))
         (subst (Rises (rec-before-by kinds-before)) split rising) x next m own
 
-    -- those so far and this one are among all
-    among : (x : Rec)
-        → Mem x (snoc (candidates-in kind γ alphabet (g .labels) (part from k list)) (record-at (basis kind γ) alphabet (g .labels) (q / (2 ^ 40))))
-        → Mem x (candidates-in kind γ alphabet (g .labels) (part from top list))
-    among x m = rw split (go (mem-cases (up-to k) m))
-      where
-        go : Mem x (up-to k) ⊎ Mem x (next ∷ []) → Mem x (up-to k ++ candidates-in kind γ alphabet (g .labels) (part k top list))
-        go (inl h) = mem-front (candidates-in kind γ alphabet (g .labels) (part k top list)) h
-        go (inr h) = mem-back (up-to k) (subst (λ (y : Rec). Mem y (candidates-in kind γ alphabet (g .labels) (part k top list))) (mem-one h) own)
+    -- with those after it they are all
+    split-next : candidates-in kind γ alphabet (g .labels) (part from top list)
+        ≡ snoc (candidates-in kind γ alphabet (g .labels) (part from k list)) (record-at (basis kind γ) alphabet (g .labels) (q / (2 ^ 40)))
+        ++ candidates-in kind γ alphabet (g .labels) (part (k + 1) top list)
+    split-next =
+        split-at (k + 1) (omega arith) (omega arith)
+        ∙ ap (λ (es : List Rec). es ++ candidates-in kind γ alphabet (g .labels) (part (k + 1) top list)) up-next
+
+    rising-next : Rises (rec-before-by kinds-before)
+        (snoc (candidates-in kind γ alphabet (g .labels) (part from k list)) (record-at (basis kind γ) alphabet (g .labels) (q / (2 ^ 40)))
+        ++ candidates-in kind γ alphabet (g .labels) (part (k + 1) top list))
+    rising-next = subst (Rises (rec-before-by kinds-before)) split-next rising
 
     -- PASSED OVER, where its code would not be the least
     walk-passed :
@@ -256,7 +261,7 @@ module _ {survey labels rank alphabet : List ℕ} {g : Settings} {γ : List Rec}
           kept = w .kept;
           size = w .size;
           room = w .room;
-          told = λ cs old b l. step cs old (w .told cs old b l);
+          told = λ cs old l. step cs old (w .told cs old l);
         }
       where
         step : (cs : List (List Rec)) (old : List ℕ)
@@ -269,7 +274,7 @@ module _ {survey labels rank alphabet : List ℕ} {g : Settings} {γ : List Rec}
         step cs old x =
             subst (λ (es : List Rec). Lists-more (support-of survey) (Listed-by kinds-before kinds-order Wanted (g .limit) γ es) cs old out₁ written)
             (sym up-next)
-            (walked-past (Often-in survey (g .threshold)) (support-of survey) (g .limit) closed γ (up-to k) next later x
+            (walked-past (Often-in survey (g .threshold)) (support-of survey) (g .limit) family γ (up-to k) next later x
             (λ f. bad (f .least)))
 
     -- AFTER IT
@@ -277,31 +282,34 @@ module _ {survey labels rank alphabet : List ℕ} {g : Settings} {γ : List Rec}
         {cells₁ seen₁ list₁ out₁ : List ℕ} {written : ℕ} (w : On-the-way survey alphabet g kind
         γ list from top out count k cells₁ seen₁ list₁ out₁ written)
         {cells₂ seen₂ list₂ out₂ : List ℕ} where
-      outcome : {v : Growth} → Pattern-grown survey g δ cells₂ seen₂ list₁ top list₂ out₁ written v out₂
-          → (cs : List (List Rec)) (old : List ℕ)
-          → Ahead-of kinds-before kinds-order (Often-in survey (g .threshold)) (g .limit) cs γ
-          (candidates-in kind γ alphabet (g .labels) (part from top list))
-          → (m : Lists-more (support-of survey) (Listed-by kinds-before kinds-order
-          (Frequent-in kinds-before survey (g .threshold)) (g .limit) γ
-          (candidates-in kind γ alphabet (g .labels) (part from k list))) cs old out₁ written)
-          → Outcome (Often-in survey (g .threshold)) (support-of survey) (g .limit)
-          (Gives kinds-before kinds-order (Often-in survey (g .threshold)) (g .limit) δ) (cs ++ m .more) old out₂ v
-      outcome u cs old b m =
-          u .told (cs ++ m .more) old
-          (subst (Ahead kinds-before kinds-order (Often-in survey (g .threshold)) (g .limit) (cs ++ m .more)) (sym t)
-          (walked-ahead (Often-in survey (g .threshold)) (support-of survey) (g .limit) closed γ (up-to k) next later m
-          (ahead-fewer kinds-before kinds-order (Often-in survey (g .threshold)) (g .limit) among b))) (m .lists)
-
-      walk-full : Pattern-grown survey g δ cells₂ seen₂ list₁ top list₂ out₁ written Full out₂
-          → Candidates-walked survey alphabet g kind γ cells₂ seen₂ list from top list₂ out count Full out₂
-      walk-full u =
+      walk-stopped : Pattern-grown survey g δ cells₂ seen₂ list₁ top list₂ out₁ written Stopped out₂
+          → Candidates-walked survey alphabet g kind γ cells₂ seen₂ list from top list₂ out count Stopped out₂
+      walk-stopped u =
           record {
             blank = u .blank;
             kept = record { size = u .kept .size; below = λ i l. u .kept .below i l ∙ w .kept .below i l };
             size = u .size ∙ w .size;
             room = omega arith;
-            told = λ cs old b l. outcome u cs old b (w .told cs old b l);
+            told = λ cs old l. stop cs old (w .told cs old l);
           }
+        where
+          stop : (cs : List (List Rec)) (old : List ℕ)
+              → Lists-more (support-of survey) (Listed-by kinds-before kinds-order
+              (Frequent-in kinds-before survey (g .threshold)) (g .limit) γ
+              (candidates-in kind γ alphabet (g .labels) (part from k list))) cs old out₁ written
+              → Stops (g .checking) (support-of survey) (Listed-by kinds-before kinds-order
+              (Frequent-in kinds-before survey (g .threshold)) (g .limit) γ
+              (candidates-in kind γ alphabet (g .labels) (part from top list))) cs out₂
+          stop cs old x =
+              subst (λ (es : List Rec). Stops (g .checking) (support-of survey)
+              (Listed-by kinds-before kinds-order (Frequent-in kinds-before survey (g .threshold)) (g .limit) γ es) cs out₂) (sym split-next)
+              (walked-stopped (Often-in survey (g .threshold)) (support-of survey) (g .limit) family γ (up-to k) next later x (a .more)
+              (candidates-in kind γ alphabet (g .labels) (part (k + 1) top list))
+              (rises-back (rec-before-by kinds-before) (snoc (up-to k) next) (candidates-in kind γ alphabet (g .labels) (part (k + 1) top list)) rising-next)
+              (rises-apart (rec-before-by kinds-before) (snoc (up-to k) next) (candidates-in kind γ alphabet (g .labels) (part (k + 1) top list)) rising-next)
+              (subst (λ (c : List Rec). Stops (g .checking) (support-of survey)
+              (Gives kinds-before kinds-order (Often-in survey (g .threshold)) (g .limit) c) (cs ++ x .more) out₂) t
+              (u .told (cs ++ x .more) old (x .lists))))
 
       walk-next : {m : ℕ} → Pattern-grown survey g δ cells₂ seen₂ list₁ top list₂ out₁ written (To m) out₂
           → On-the-way survey alphabet g kind γ list from top out count (k + 1) cells₂ seen₂ list₂ out₂ m
@@ -313,7 +321,7 @@ module _ {survey labels rank alphabet : List ℕ} {g : Settings} {γ : List Rec}
             kept = record { size = u .kept .size; below = λ i l. u .kept .below i l ∙ w .kept .below i l };
             size = u .size ∙ w .size;
             room = u .room;
-            told = λ cs old b l. step cs old (w .told cs old b l) (outcome u cs old b (w .told cs old b l));
+            told = λ cs old l. let x = w .told cs old l in step cs old x (u .told (cs ++ x .more) old (x .lists));
           }
         where
           step : (cs : List (List Rec)) (old : List ℕ)
@@ -328,7 +336,7 @@ module _ {survey labels rank alphabet : List ℕ} {g : Settings} {γ : List Rec}
           step cs old x y =
               subst (λ (es : List Rec). Lists-more (support-of survey) (Listed-by kinds-before kinds-order Wanted (g .limit) γ es) cs old out₂ m)
               (sym up-next)
-              (walked-more (Often-in survey (g .threshold)) (support-of survey) (g .limit) closed γ (up-to k) next later x
+              (walked-more (Often-in survey (g .threshold)) (support-of survey) (g .limit) family γ (up-to k) next later x
               (subst (λ (c : List Rec). Lists-more (support-of survey) (Gives kinds-before kinds-order (Often-in survey (g .threshold)) (g .limit) c)
               (cs ++ x .more) old out₂ m) t y))
 
@@ -342,7 +350,7 @@ module _ {survey labels rank alphabet : List ℕ} {g : Settings} {γ : List Rec}
         kept = record { size = a .at-hand .list-size; below = λ k l. refl };
         size = refl;
         room = a .out-room;
-        told = λ cs old b l.
+        told = λ cs old l.
             subst (λ (qs : List ℕ). Lists-more (support-of survey) (Listed-by kinds-before kinds-order Wanted (g .limit) γ
             (candidates-in kind γ alphabet (g .labels) qs)) cs old out count) (sym (part-none from list))
             (none-walked (Often-in survey (g .threshold)) (support-of survey) (g .limit) γ (a .out-room) l);
@@ -358,9 +366,9 @@ module _ {survey labels rank alphabet : List ℕ} {g : Settings} {γ : List Rec}
         kept = w .kept;
         size = w .size;
         room = w .room;
-        told = λ cs old b l.
+        told = λ cs old l.
             subst (λ (i : ℕ). Lists-more (support-of survey) (Listed-by kinds-before kinds-order Wanted (g .limit) γ (up-to i)) cs old out₁ written) z
-            (w .told cs old b l);
+            (w .told cs old l);
       }
 
 -- IN PLACE: what the walk of the earlier candidates left in front is the code
@@ -442,9 +450,9 @@ module _ {survey labels rank alphabet : List ℕ} {g : Settings} {code kinds : L
 
       -- after it
       module _ {cells₃ seen₃ list₃ out₃ : List ℕ} where
-        pub walk-fills : Pattern-grown survey g (recs-in (m + 1) code₂) cells₃ seen₃ list₁ top list₃ out₁ written Full out₃
-            → Candidates-walked survey alphabet g kind (recs-in m code) cells₃ seen₃ list from top list₃ out count Full out₃
-        walk-fills = walk-full a at (walk-at .low) b (getD list₁ at 0) (w .kept .below at b) walk-turned walk-at
+        pub walk-fills : Pattern-grown survey g (recs-in (m + 1) code₂) cells₃ seen₃ list₁ top list₃ out₁ written Stopped out₃
+            → Candidates-walked survey alphabet g kind (recs-in m code) cells₃ seen₃ list from top list₃ out count Stopped out₃
+        walk-fills = walk-stopped a at (walk-at .low) b (getD list₁ at 0) (w .kept .below at b) walk-turned walk-at
 
         pub walk-goes-on : {more : ℕ}
             → Pattern-grown survey g (recs-in (m + 1) code₂) cells₃ seen₃ list₁ top list₃ out₁ written (To more) out₃

@@ -1,4 +1,4 @@
--- Growing a pattern and walking its next cables: what both ask and what they leave. Assumes nothing: these are definitions.
+-- Growing a pattern and walking its next cables: what both ask and what they leave. `out` is the page on which entries stand. Assumes nothing: these are definitions.
 use mathlib.Core.Path.{_≡_}
 use mathlib.Core.Bool.{Bool, true, false}
 use mathlib.Core.List.{List, [], _∷_, map}
@@ -17,13 +17,12 @@ use Rattle.growth.specs.Places.{place-of, crane-cell}
 use Rattle.growth.specs.CountingExtensions.{Counting, First-of}
 use Rattle.growth.specs.Floors.{Grown-above}
 use Rattle.growth.specs.ListedBy.{Chosen-cells, place-in, records-at}
-use Rattle.growth.specs.Output.{Ahead}
 use Rattle.growth.specs.Listings.{Lists, Lists-more}
-use Rattle.growth.specs.Walking.{Gives, Ahead-of}
+use Rattle.growth.specs.Walking.{Gives}
 use Rattle.growth.specs.Sizes.{places-size, candidates-size}
 use Rattle.entries.specs.ListOutcomes.{Outcome, Room-left}
 use Rattle.entries.specs.declared.output.Growth.{Growth}
-use Rattle.entries.specs.declared.output.Growth.the-variants.{To, Full}
+use Rattle.entries.specs.declared.output.Growth.the-variants.{To, Stopped}
 use Rattle.growing.specs.declared.grow.Settings.{Settings}
 use Rattle.walks.specs.LabelMarks.{drawings-of, cranes-of}
 use Rattle.walks.specs.Prepared.{Prepared}
@@ -62,9 +61,9 @@ pub record Can-grow-pattern (survey labels rank alphabet : List ℕ) (g : Settin
   pub at-hand : At-hand cells seen list base (length γ)
   pub out-room : 42 * count ≤ length out
 
--- so many entries, unless one does not fit
-abbrev pub growth-of : (full : Bool) (count : ℕ) → Growth
-growth-of true count = Full
+-- so many entries, unless one cannot stand there
+abbrev pub growth-of : (stopped : Bool) (count : ℕ) → Growth
+growth-of true count = Stopped
 growth-of false count = To count
 
 -- AFTER GROWING
@@ -76,12 +75,8 @@ pub record Pattern-grown (survey : List ℕ) (g : Settings) (γ : List Rec) (cel
   pub size : length out-now ≡ length out
   pub room : Room-left out-now r
   pub told :
-      (cs : List (List Rec)) (old : List ℕ) → Ahead kinds-before kinds-order (Often-in survey (g .threshold)) (g .limit) cs γ
-      → Lists (support-of survey) cs old out count
-      → Outcome (Often-in survey (g .threshold)) (support-of survey) (g .limit)
-      (Gives kinds-before kinds-order (Often-in survey (g .threshold))
-      (g .limit) γ) cs old
-      out-now r
+      (cs : List (List Rec)) (old : List ℕ) → Lists (support-of survey) cs old out count
+      → Outcome (g .checking) (support-of survey) (Gives kinds-before kinds-order (Often-in survey (g .threshold)) (g .limit) γ) cs old out-now r
 
 -- WHICH RECORDS WERE COUNTED after γ, above some floors, or of a lone device of some kind
 abbrev pub Fit : (kind : ℕ) (floors : List ℕ) → List Rec → Drawing → Rec → Type 0
@@ -117,11 +112,8 @@ pub record Candidates-walked (survey alphabet : List ℕ) (g : Settings) (kind :
   pub size : length out-now ≡ length out
   pub room : Room-left out-now r
   pub told :
-      (cs : List (List Rec)) (old : List ℕ)
-      → Ahead-of kinds-before kinds-order (Often-in survey (g .threshold)) (g .limit) cs γ
-      (candidates-in kind γ alphabet (g .labels) (part from top list))
-      → Lists (support-of survey) cs old out count
-      → Outcome (Often-in survey (g .threshold)) (support-of survey) (g .limit)
+      (cs : List (List Rec)) (old : List ℕ) → Lists (support-of survey) cs old out count
+      → Outcome (g .checking) (support-of survey)
       (Listed-by kinds-before kinds-order (Frequent-in kinds-before survey (g .threshold)) (g .limit) γ
       (candidates-in kind γ alphabet (g .labels) (part from top list)))
       cs old out-now r
@@ -136,10 +128,7 @@ pub record On-the-way (survey alphabet : List ℕ) (g : Settings) (kind : ℕ) (
   pub size : length out-now ≡ length out
   pub room : 42 * written ≤ length out-now
   pub told :
-      (cs : List (List Rec)) (old : List ℕ)
-      → Ahead-of kinds-before kinds-order (Often-in survey (g .threshold)) (g .limit) cs γ
-      (candidates-in kind γ alphabet (g .labels) (part from top list))
-      → Lists (support-of survey) cs old out count
+      (cs : List (List Rec)) (old : List ℕ) → Lists (support-of survey) cs old out count
       → Lists-more (support-of survey)
       (Listed-by kinds-before kinds-order (Frequent-in kinds-before survey (g .threshold)) (g .limit) γ
       (candidates-in kind γ alphabet (g .labels) (part from k list)))

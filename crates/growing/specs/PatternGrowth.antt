@@ -1,5 +1,5 @@
--- Growing a pattern: that it may be taken up, and what is listed when it is passed over, does not fit, is as large as the
--- limit, or its next cables were walked. Rests on Growths and Walking. Assumes nothing.
+-- Growing a pattern: that it may be taken up, and what is listed when it is passed over, cannot stand there, is as large as the
+-- limit, or its next cables were walked. An instance of ListingLaws. Assumes nothing.
 use mathlib.Core.Path.{_≡_, refl, sym, ap, _∙_, subst}
 use mathlib.Core.Bool.{Bool, true}
 use mathlib.Core.List.{List, [], _∷_, map}
@@ -7,7 +7,7 @@ use Prim.Native.Nat.{ℕ, _+_, _*_, _/_, _^_, _≤_, _<_}
 use native.Mathlib.Omega.{arith}
 use borrow.Author.Tests.{eqb-true}
 use lib.ListN.{length, length-map}
-use Rattle.laws.specs.Lists.{Mem, snoc}
+use Rattle.laws.specs.Lists.{snoc}
 use Rattle.graphs.specs.Drawing.{Drawing}
 use Rattle.graphs.specs.Map.{contains}
 use Rattle.graphs.specs.Patterns.{pattern-from-test}
@@ -19,7 +19,7 @@ use Rattle.codes.specs.LeastCode.{least-greedy}
 use Rattle.growth.specs.Catalogue.{entry, entry-bytes, Often-in, support-of}
 use Rattle.growth.specs.Family.{Listable, entry-for}
 use Rattle.growth.specs.Growth.{Listed, Listed-by}
-use Rattle.growth.specs.Frequent.{Frequent, Frequent-in}
+use Rattle.growth.specs.Frequent.{Frequent, Frequent-in, often-family}
 use Rattle.growth.specs.Places.{place-of, cell-set}
 use Rattle.growth.specs.CellLaws.{crane-cell-set, crane-cell-count, count-true-bound}
 use Rattle.graphs.specs.CraneCounts.{crane-count-bound}
@@ -27,17 +27,18 @@ use Rattle.growth.specs.CountingExtensions.{All-sections, Counting}
 use Rattle.codes.specs.ReadRows.{good-from-test}
 use Rattle.growth.specs.Floors.{Floors-of, Above, Grown-above}
 use Rattle.growth.specs.ListedBy.{Chosen-places, place-in, chosen-places, chosen-listed}
-use Rattle.growth.specs.Output.{Done, Ahead}
-use Rattle.growth.specs.Walking.{Gives, Ahead-of}
+use Rattle.growth.specs.Page.{Not-there}
+use Rattle.growth.specs.Walking.{Gives}
 use Rattle.growth.specs.Listings.{Lists}
-use Rattle.growth.specs.ListingLaws.{lists-next, gives-nothing, listed-too-many, listed-ahead, gives-listed, gives-leaf}
+use Rattle.growth.specs.PageLaws.{lists-next}
+use Rattle.growth.specs.ListingLaws.{gives-nothing, gives-stopped, gives-stopped-below, gives-listed, gives-leaf}
 use Rattle.entries.specs.ListOutcomes.{Outcome}
+use Rattle.entries.specs.WrittenLaws.{outcome-as}
 use Rattle.entries.specs.declared.output.Growth.{Growth}
-use Rattle.entries.specs.declared.output.Growth.the-variants.{To, Full}
+use Rattle.entries.specs.declared.output.Growth.the-variants.{To, Stopped}
 use Rattle.growing.specs.declared.grow.Settings.{Settings}
 use Rattle.taking.specs.declared.take.Taken.{Taken}
 use Rattle.taking.specs.declared.take.Taken.the-variants as answers
-use Rattle.taking.specs.declared.take.Taken.the-variants.{Passed, Written}
 use Rattle.walks.specs.LabelMarks.{drawings-of, cranes-of}
 use Rattle.laws.specs.PutRecords.{put-record}
 use Rattle.laws.specs.PutRecordLaws.{put-length}
@@ -49,7 +50,7 @@ use Rattle.laws.specs.Parts.{part}
 use Rattle.walks.specs.Choices.{List-kept}
 use Rattle.choosing.specs.NextChosen.{Room-to-choose, Candidates-chosen}
 use Rattle.extending.specs.HeldCode.{Code-held}
-use Rattle.taking.specs.Taking.{Can-take-candidate, Entry-put, Candidate-taken, over-of, full-of, count-of, Taken-on, Entry-goes-on}
+use Rattle.taking.specs.Taking.{Can-take-candidate, Entry-put, Candidate-taken, over-of, stopped-of, count-of, Taken-on, Entry-goes-on}
 use Rattle.growing.specs.GrowthOutcomes.{
   growth-of,
   Can-grow-pattern,
@@ -129,27 +130,32 @@ module _ {survey labels rank alphabet : List ℕ} {g : Settings} {γ : List Rec}
         kept = same-list;
         size = ap length e;
         room = omega (arith, a .out-room, ap length e);
-        told = λ cs old p t.
+        told = λ cs old t.
             gives-nothing (Often-in survey (g .threshold)) (support-of survey) (g .limit) (λ f. bad (f .least))
             (omega (arith, a .out-room, ap length e))
             (subst (λ (y : List ℕ). Lists (support-of survey) cs old y count) (sym e) t);
       }
 
-  -- NO ROOM
-  pub grow-full :
-      Least (decoded γ) γ → length out < 42 * count + 42 → (z : List ℕ) → z ≡ out
-      → Pattern-grown survey g γ cells seen list base list out count Full z
-  grow-full l s z e =
+  -- STOPPED
+  pub grow-stopped :
+      Least (decoded γ) γ → Not-there (g .checking) (entry-bytes (entry (cell / (2 ^ 32)) γ)) count out → (z : List ℕ) → z ≡ out
+      → Pattern-grown survey g γ cells seen list base list out count Stopped z
+  grow-stopped l s z e =
       record {
         blank = a .at-hand .blank;
         kept = same-list;
         size = ap length e;
         room = omega arith;
-        told = λ cs old p t. listed-too-many (Often-in survey (g .threshold)) (support-of survey) (g .limit) (frequent l) (a .most) p t
-            (omega (arith, ap length e));
+        told = λ cs old t.
+            gives-stopped (Often-in survey (g .threshold)) (support-of survey) (g .limit) (frequent l) (a .most)
+            (often-family kinds-before kinds-order (cranes-of survey) (drawings-of survey) (g .threshold) (a .set-up .one))
+            (omega (arith, a .most, a .set-up .small)) {checking = g .checking}
+            (subst (λ (y : List ℕ). Lists (support-of survey) cs old y count) (sym e) t)
+            (subst (Not-there (g .checking) (entry-bytes (entry-for (support-of survey) γ)) count) (sym e)
+            (subst (λ (k : ℕ). Not-there (g .checking) (entry-bytes (entry k γ)) count out) counted s));
       }
 
-  -- WRITTEN
+  -- LISTED
   module _ {mid : List ℕ} (p : Entry-put γ cell count out mid) where
     own : mid ≡ put-record 42 count (entry-bytes (entry-for (support-of survey) γ)) out
     own = p .is ∙ ap (λ (k : ℕ). put-record 42 count (entry-bytes (entry k γ)) out) counted
@@ -160,13 +166,9 @@ module _ {survey labels rank alphabet : List ℕ} {g : Settings} {γ : List Rec}
         ∙ put-length 42 count (entry-bytes (entry-for (support-of survey) γ)) out
         (entry-size (entry-for (support-of survey) γ) (omega (arith, a .most, a .set-up .small))) (p .room)
 
-    low : (cs : List (List Rec)) → Done kinds-before kinds-order (Often-in survey (g .threshold)) (g .limit) cs → (c : List Rec)
-        → Mem c cs → length c ≤ 8
-    low cs d c m = omega (arith, d .right c m .1, a .set-up .small)
-
-    listed : (cs : List (List Rec)) (old : List ℕ) → Ahead kinds-before kinds-order (Often-in survey (g .threshold)) (g .limit) cs γ
-        → Lists (support-of survey) cs old out count → Lists (support-of survey) (snoc cs γ) old mid (count + 1)
-    listed cs old e t = lists-next (support-of survey) cs γ old out mid count (low cs (e .done)) t own
+    listed : (cs : List (List Rec)) (old : List ℕ) → Lists (support-of survey) cs old out count
+        → Lists (support-of survey) (snoc cs γ) old mid (count + 1)
+    listed cs old t = lists-next (support-of survey) cs γ (omega (arith, a .most, a .set-up .small)) old out mid count t own
 
     mid-room : 42 * (count + 1) ≤ length mid
     mid-room = omega (arith, mid-size, p .room)
@@ -179,9 +181,9 @@ module _ {survey labels rank alphabet : List ℕ} {g : Settings} {γ : List Rec}
           kept = same-list;
           size = mid-size;
           room = mid-room;
-          told = λ cs old q t.
-              gives-leaf (Often-in survey (g .threshold)) (support-of survey) (g .limit) (frequent (p .least)) (a .most) q (omega arith) mid-room
-              (listed cs old q t);
+          told = λ cs old t.
+              gives-leaf (Often-in survey (g .threshold)) (support-of survey) (g .limit) (frequent (p .least)) (a .most) (omega arith) mid-room
+              (listed cs old t);
         }
 
   -- SMALLER: its next cables are chosen and walked
@@ -229,16 +231,11 @@ module _ {survey labels rank alphabet : List ℕ} {g : Settings} {γ : List Rec}
             kept = record { size = w .kept .size; below = λ k l. w .kept .below k (omega (arith, c .low)) ∙ c .kept .below k l };
             size = w .size ∙ mid-size (o .put);
             room = w .room;
-            told = λ cs old q u.
-                go cs old q r (w .told (snoc cs γ) old (ahead cs q)
-                (subst (λ (k : ℕ). Lists (support-of survey) (snoc cs γ) old mid k) (sym (o .one-more)) (listed (o .put) cs old q u)));
+            told = λ cs old u.
+                go cs old r (w .told (snoc cs γ) old
+                (subst (λ (k : ℕ). Lists (support-of survey) (snoc cs γ) old mid k) (sym (o .one-more)) (listed (o .put) cs old u)));
           }
         where
-          ahead : (cs : List (List Rec)) → Ahead kinds-before kinds-order (Often-in survey (g .threshold)) (g .limit) cs γ
-              → Ahead-of kinds-before kinds-order (Often-in survey (g .threshold)) (g .limit) (snoc cs γ) γ
-              (candidates-in 0 γ alphabet (g .labels) (part base top list₂))
-          ahead cs q = listed-ahead (Often-in survey (g .threshold)) (support-of survey) (g .limit) (frequent (o .put .least)) (a .most) q _
-
           all : (more : List (List Rec))
               → Listed-by kinds-before kinds-order (Frequent-in kinds-before survey (g .threshold)) (g .limit) γ
               (candidates-in 0 γ alphabet (g .labels) (part base top list₂)) more
@@ -249,31 +246,35 @@ module _ {survey labels rank alphabet : List ℕ} {g : Settings} {γ : List Rec}
               (fit-grown 0 (c .floors) γ (a .some) (c .counting)) (a .set-up .one)
               (chosen-places (cranes-of survey) (c .sets) (g .threshold) (g .labels) (part base top list₂) sets-few (c .chosen)) (g .limit) more
 
-          go : (cs : List (List Rec)) (old : List ℕ) → Ahead kinds-before kinds-order (Often-in survey (g .threshold)) (g .limit) cs γ
-              → (r : Growth)
-              → Outcome (Often-in survey (g .threshold)) (support-of survey) (g .limit)
+          own-too : (cs : List (List Rec)) (old : List ℕ) (r : Growth)
+              → Outcome (g .checking) (support-of survey)
+              (Listed kinds-before kinds-order (Frequent-in kinds-before survey (g .threshold)) (g .limit) γ) (snoc cs γ) old z r
+              → Outcome (g .checking) (support-of survey) (Gives kinds-before kinds-order (Often-in survey (g .threshold)) (g .limit) γ) cs old z r
+          own-too cs old (To k) m =
+              gives-listed (Often-in survey (g .threshold)) (support-of survey) (g .limit) (frequent (o .put .least)) (a .most) m
+          own-too cs old Stopped m =
+              gives-stopped-below (Often-in survey (g .threshold)) (support-of survey) (g .limit) (frequent (o .put .least)) (a .most) m
+
+          go : (cs : List (List Rec)) (old : List ℕ) (r : Growth)
+              → Outcome (g .checking) (support-of survey)
               (Listed-by kinds-before kinds-order (Frequent-in kinds-before survey (g .threshold)) (g .limit) γ
               (candidates-in 0 γ alphabet (g .labels) (part base top list₂))) (snoc cs γ) old z r
-              → Outcome (Often-in survey (g .threshold)) (support-of survey) (g .limit)
-              (Gives kinds-before kinds-order (Often-in survey (g .threshold)) (g .limit) γ) cs old z r
-          go cs old q (To k) m =
-              gives-listed (Often-in survey (g .threshold)) (support-of survey) (g .limit) (frequent (o .put .least)) (a .most) q
-              (record { more = m .more; which = all (m .more) (m .which); lists = m .lists; room = m .room })
-          go cs old q Full m = m
+              → Outcome (g .checking) (support-of survey) (Gives kinds-before kinds-order (Often-in survey (g .threshold)) (g .limit) γ) cs old z r
+          go cs old r m = own-too cs old r (outcome-as (g .checking) (support-of survey) all (snoc cs γ) old z r m)
 
-  -- THAT WAS ALL: passed over, without room, or as large as the limit
-  module _ {over full : Bool} {more : ℕ} {z : List ℕ} (t : Taken-on γ cell (g .limit) count out over full more z) where
-    pub grow-over : {r : Growth} → over ≡ true → r ≡ growth-of full more → Pattern-grown survey g γ cells seen list base list out count r z
+  -- THAT WAS ALL: passed over, stopped, or as large as the limit
+  module _ {over stopped : Bool} {more : ℕ} {z : List ℕ} (t : Taken-on (g .checking) γ cell (g .limit) count out over stopped more z) where
+    pub grow-over : {r : Growth} → over ≡ true → r ≡ growth-of stopped more → Pattern-grown survey g γ cells seen list base list out count r z
     grow-over {r} o e =
         subst (λ (v : Growth). Pattern-grown survey g γ cells seen list base list out count v z)
-        (sym (e ∙ ap (λ (b : Bool). growth-of b more) (t .full-is) ∙ ap (growth-of (full-of (t .taken))) (t .count-is)))
+        (sym (e ∙ ap (λ (b : Bool). growth-of b more) (t .stopped-is) ∙ ap (growth-of (stopped-of (t .taken))) (t .count-is)))
         (go (t .taken) (t .told) (sym (t .over-is) ∙ o))
       where
-        go : (v : Taken) → Candidate-taken γ cell count out v z → over-of (length γ) (g .limit) v ≡ true
-            → Pattern-grown survey g γ cells seen list base list out count (growth-of (full-of v) (count-of count v)) z
-        go Passed w e = grow-passed (w .not-least) z (w .same)
-        go answers.Full w e = grow-full (w .least) (w .short) z (w .same)
-        go Written w e = grow-leaf w (eqb-true (length γ) (g .limit) e)
+        go : (v : Taken) → Candidate-taken (g .checking) γ cell count out v z → over-of (length γ) (g .limit) v ≡ true
+            → Pattern-grown survey g γ cells seen list base list out count (growth-of (stopped-of v) (count-of count v)) z
+        go answers.Passed w e = grow-passed (w .not-least) z (w .same)
+        go answers.Stopped w e = grow-stopped (w .least) (w .back) z (w .same)
+        go answers.Listed w e = grow-leaf w (eqb-true (length γ) (g .limit) e)
 
 -- IN PLACE: a code of m records in front of an array
 module _ {survey labels rank alphabet : List ℕ} {g : Settings} {code kinds : List ℕ} {m n : ℕ} (h : Code-held code kinds m n) {cell : ℕ}

@@ -1,5 +1,5 @@
 // Growing a pattern and walking its next cables, which call each other: a pattern that is frequent and whose code is the
-// least is written, and grown by every cable that may come next, in rising order, up to the size limit.
+// least is listed, and grown by every cable that may come next, in rising order, up to the size limit.
 use candidates::choose::CANDIDATES;
 use choosing::next::choose_next;
 use embeddings::rows::KEPT;
@@ -16,6 +16,7 @@ use taking::take::take_on;
 ghost use mathlib.Core.Path.{_≡_};
 ghost use Prim.Native.Nat.{_+_};
 ghost use Rattle.codes.specs.Code.{recs-in};
+ghost use Rattle.growth.specs.Page.{page};
 ghost use Rattle.walks.specs.LabelMarks.{drawings-of};
 ghost use Rattle.walks.specs.EmbeddingLists.{Lists-kept};
 ghost use Rattle.growing.specs.ListsHanded.{Lists-below, Lists-at};
@@ -23,20 +24,21 @@ ghost use Rattle.growing.specs.GrowthOutcomes.{growth-of, Can-grow-patte
 ghost use Rattle.growing.specs.GrowthOutcomes.{Pattern-grown, Can-walk-candidates, Candidates-walked};
 ghost use Rattle.extending.specs.HeldCode.{Code-held, Code-kept};
 
-// What a catalogue is asked for: the number of the survey's labels, of how many cranes drawings have to contain a pattern, and how
-// many cables it may have.
+// What a catalogue is asked for: the number of the survey's labels, of how many cranes drawings have to contain a pattern, how many
+// cables it may have, and whether a list is checked, not written.
 pub struct Settings {
     pub labels: usize,
     pub threshold: usize,
     pub limit: usize,
+    pub checking: bool,
 }
 
-// What stands in the output after a pattern of which that was all.
+// What stands in the list after a pattern of which that was all.
 fn ended(step: TakenOn) -> Growth
-    ensures { λ r. ⌜ r ≡ growth-of (step .full) (step .count) ⌝ }
+    ensures { λ r. ⌜ r ≡ growth-of (step .stopped) (step .count) ⌝ }
 {
-    if step.full {
-        return Growth::Full;
+    if step.stopped {
+        return Growth::Stopped;
     }
     Growth::To(step.count)
 }
@@ -61,19 +63,31 @@ pub fn grow(
     listed: bool,
     kept: &mut [u8; KEPT],
     ends: &mut [usize; ENDS],
+    given: &[u8],
     output: &mut [u8],
     count: usize,
 ) -> Growth
     requires { ⌜ Can-grow-pattern (now survey) (now labels) (now rank) (now alphabet) settings (recs-in cables (now code)) cell
-        (now cells) (now seen) (now list) base (now output) count
+        (now cells) (now seen) (now list) base (page (settings .checking) (now given) (now output)) count
         × Code-held (now code) (now kinds) cables devices
         × Lists-below (drawings-of (now survey)) (recs-in cables (now code)) cables listed (now kept) (now ends) ⌝ }
     ensures { λ r. ⌜ Pattern-grown (now (survey .entry)) settings (recs-in cables (now (code .entry))) (now (cells .exit)) (now (seen .exit))
-        (now (list .entry)) base (now (list .exit)) (now (output .entry)) count r (now (output .exit))
+        (now (list .entry)) base (now (list .exit)) (page (settings .checking) (now (given .entry)) (now (output .entry))) count r
+        (page (settings .checking) (now (given .entry)) (now (output .exit)))
         × Code-kept cables devices (now (code .entry)) (now (kinds .entry)) (now (code .exit)) (now (kinds .exit))
         × Lists-kept cables (now (kept .entry)) (now (ends .entry)) (now (kept .exit)) (now (ends .exit)) ⌝ }
 {
-    let step = take_on(code, cables, devices, cell, settings.limit, output, count);
+    let step = take_on(
+        code,
+        cables,
+        devices,
+        cell,
+        settings.limit,
+        settings.checking,
+        given,
+        output,
+        count,
+    );
     if step.over {
         return ended(step);
     }
@@ -113,6 +127,7 @@ pub fn grow(
         next.listed,
         kept,
         ends,
+        given,
         output,
         step.count,
     )
@@ -139,16 +154,18 @@ pub fn walk(
     listed: bool,
     kept: &mut [u8; KEPT],
     ends: &mut [usize; ENDS],
+    given: &[u8],
     output: &mut [u8],
     count: usize,
 ) -> Growth
     requires { ⌜ Can-walk-candidates (now survey) (now labels) (now rank) (now alphabet) settings (recs-in cables (now code)) kind
-        (now cells) (now seen) (now list) from top (now output) count
+        (now cells) (now seen) (now list) from top (page (settings .checking) (now given) (now output)) count
         × Code-held (now code) (now kinds) cables devices
         × Lists-at (drawings-of (now survey)) (recs-in cables (now code)) cables listed (now kept) (now ends) ⌝ }
     ensures { λ r. ⌜ Candidates-walked (now (survey .entry)) (now (alphabet .entry)) settings kind (recs-in cables (now (code .entry)))
         (now (cells .exit)) (now (seen .exit)) (now (list .entry)) from top (now (list .exit))
-        (now (output .entry)) count r (now (output .exit))
+        (page (settings .checking) (now (given .entry)) (now (output .entry))) count r
+        (page (settings .checking) (now (given .entry)) (now (output .exit)))
         × Code-kept cables devices (now (code .entry)) (now (kinds .entry)) (now (code .exit)) (now (kinds .exit))
         × Lists-kept (cables + 1) (now (kept .entry)) (now (ends .entry)) (now (kept .exit)) (now (ends .exit)) ⌝ }
 {
@@ -188,10 +205,11 @@ pub fn walk(
             listed,
             kept,
             ends,
+            given,
             output,
             written,
         ) else {
-            return Growth::Full;
+            return Growth::Stopped;
         };
         written = more;
         k = next.at + 1;

@@ -13,14 +13,7 @@ use Rattle.growth.specs.Settings.{accepted-settings}
 use Rattle.growth.specs.Growth.{Listed}
 use Rattle.growth.specs.Family.{entry-for}
 use Rattle.growth.specs.FamilyLists.{listed-list, list-exists, list-unique}
-use Rattle.growth.specs.Frequent.{
-  Frequent,
-  often-closed,
-  often-decided,
-  support-kept,
-  survey-candidates,
-  frequent-candidate,
-}
+use Rattle.growth.specs.Frequent.{Frequent, often-closed, often-family, support-kept}
 
 module _ (labels : Rec → Rec → Bool) (o : Label-order labels) (cr : List ℕ) (ds : List Drawing) (s l : ℕ) where
   -- ALL FREQUENT LEAST CODES, with their supports, are a catalogue
@@ -32,9 +25,7 @@ module _ (labels : Rec → Rec → Bool) (o : Label-order labels) (cr : List ℕ
   -- THERE IS ONE
   pub catalogue-exists : 1 ≤ s → (es : List Entry) × Catalogue-by labels cr ds s l es
   catalogue-exists one =
-      list-exists labels o (Often cr ds s) (support-in cr ds) l (often-closed cr ds s) (support-kept cr ds) (often-decided cr ds s)
-      (λ γ. survey-candidates labels o cr ds s)
-      (λ γ e rest f. frequent-candidate labels o cr ds s one γ e rest f)
+      list-exists labels o (Often cr ds s) (support-in cr ds) l (often-family labels o cr ds s one) (support-kept cr ds)
 
   -- AND NO OTHER
   pub catalogue-unique : (es gs : List Entry) → Catalogue-by labels cr ds s l es → Catalogue-by labels cr ds s l gs → es ≡ gs

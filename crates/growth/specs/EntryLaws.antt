@@ -1,7 +1,7 @@
 -- Entries in the output: one entry written byte by byte, and one entry more behind those that are there. Rests on records
 -- of any size. Assumes nothing.
 use mathlib.Core.Path.{_≡_, refl, sym, ap, _∙_}
-use mathlib.Core.List.{List, [], _∷_, _++_, map}
+use mathlib.Core.List.{List, [], _∷_, _++_, map, append-assoc}
 use Prim.Native.Nat.{ℕ, suc, _+_, _*_, _-_, _≤_, _<_}
 use native.Mathlib.Numerals.{add-one}
 use native.Mathlib.Omega.{arith}
@@ -23,8 +23,8 @@ use lib.ListN.{
 use lib.Seq.{take-suc, take-suc-set, take-all, getD-take, getD-append-add, length-take-le}
 use borrow.Author.Tests.{lt-ltb, le-ltb}
 use Rattle.laws.specs.Lists.{Mem, snoc, concat, map-append}
-use Rattle.laws.specs.Rows.{Sized}
-use Rattle.codes.specs.Code.{recs-in, rec-bytes}
+use Rattle.laws.specs.Rows.{Sized, concat-length}
+use Rattle.codes.specs.Code.{rec-bytes}
 use Rattle.codes.specs.CodeBytes.{rec-bytes-length, rec-bytes-in, recs-in-length}
 use Rattle.growth.specs.Catalogue.{Entry, entry, entry-bytes, all-bytes}
 use Rattle.growth.specs.Entries.{byte-or-zero, told, Bytes-written, Writes-on}
@@ -136,6 +136,17 @@ pub entries-sized : (es : List Entry) → ((e : Entry) → Mem e es → length (
 unfolding Sized
 entries-sized [] h = tt
 entries-sized (e ∷ es) h = (entry-size e (h e (Mem.here refl)), entries-sized es (λ f m. h f (Mem.there m)))
+
+-- so all of them together have theirs
+pub all-bytes-length : (es : List Entry) → ((e : Entry) → Mem e es → length (e .code) ≤ 8) → length (all-bytes es) ≡ 42 * length es
+unfolding all-bytes
+all-bytes-length es h = concat-length 42 (map entry-bytes es) (entries-sized es h) ∙ ap (λ (k : ℕ). 42 * k) (length-map es entry-bytes)
+
+pub all-bytes-append : (es gs : List Entry) → all-bytes (es ++ gs) ≡ all-bytes es ++ all-bytes gs
+unfolding all-bytes concat
+all-bytes-append [] gs = refl
+all-bytes-append (e ∷ es) gs =
+    ap (λ (l : List ℕ). entry-bytes e ++ l) (all-bytes-append es gs) ∙ sym (append-assoc (entry-bytes e) (all-bytes es) (all-bytes gs))
 
 -- ONE ENTRY MORE behind those that are there
 pub entry-behind :

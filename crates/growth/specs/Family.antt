@@ -2,9 +2,10 @@
 -- these are definitions.
 use mathlib.Core.Path.{_≡_}
 use mathlib.Core.Bool.{Bool, true}
-use mathlib.Core.List.{List}
+use mathlib.Core.List.{List, _∷_, _++_}
 use mathlib.Core.Logic.{_⊎_}
 use Prim.Native.Nat.{ℕ}
+use Rattle.laws.specs.Lists.{Mem}
 use Rattle.graphs.specs.Drawing.{Drawing, is-pattern}
 use Rattle.graphs.specs.Map.{contains, Same}
 use Rattle.graphs.specs.Embedding.{Ends-in-range}
@@ -29,6 +30,13 @@ Kept-by-maps figure = (p q : Drawing) → Ends-in-range p → Ends-in-range q �
 -- it can be decided what is wanted
 abbrev pub Decidable : (Drawing → Type 0) → Type 0
 Decidable Wanted = (p : Drawing) → Wanted p ⊎ (Wanted p → ⊥)
+
+-- A FAMILY THAT CAN BE LISTED: closed and decided, and every next record of what is listed is among some
+pub record Family (labels : Rec → Rec → Bool) (Wanted : Drawing → Type 0) : Type 0 where
+  pub closed : Closed Wanted
+  pub decided : Decidable Wanted
+  pub next : List Rec → List Rec
+  pub all : (γ : List Rec) (e : Rec) (rest : List Rec) → Listable labels Wanted (γ ++ e ∷ rest) → Mem e (next γ)
 
 -- the entry of a code
 abbrev pub entry-for : (Drawing → ℕ) → List Rec → Entry

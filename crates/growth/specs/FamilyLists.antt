@@ -2,27 +2,29 @@
 -- Rests on Growth and FamilyLaws. Assumes nothing.
 use mathlib.Core.Path.{_≡_, refl, ap, subst}
 use mathlib.Core.Bool.{Bool, true}
-use mathlib.Core.List.{List, [], _∷_, _++_, map}
-use Prim.Native.Nat.{ℕ, _≤_, _<_}
+use mathlib.Core.List.{List, [], _∷_, map}
+use mathlib.Core.Logic.{_⊎_}
+use Prim.Native.Nat.{ℕ, _-_, _≤_, _<_}
 use native.Mathlib.Omega.{arith}
+use native.Mathlib.Decide.{decLe}
 use lib.ListN.{length, getD}
-use Rattle.laws.specs.Lists.{Mem, mem-map}
+use Rattle.laws.specs.Lists.{Mem, snoc, mem-map}
 use Rattle.laws.specs.Rising.{Rises, rising-equal}
 use Rattle.graphs.specs.Drawing.{Drawing, is-pattern, byte-list}
 use Rattle.graphs.specs.Map.{Same}
 use Rattle.graphs.specs.Graph.{Simple, Pattern}
 use Rattle.graphs.specs.Patterns.{pattern-from-test, pattern-to-test, byte-list-at, byte-list-from}
 use Rattle.graphs.specs.Containment.{contains-from-same}
-use Rattle.codes.specs.Code.{Rec, Code-of, Least-by, before-by, decoded}
+use Rattle.codes.specs.Code.{Rec, Code-of, Least-by, rec-before-by, before-by, decoded}
 use Rattle.codes.specs.CodeOrder.{Label-order, before-strict}
 use Rattle.codes.specs.ReadRows.{good-from-test}
 use Rattle.codes.specs.FullCode.{Coded, coded-from-test, coded-length, coded-simple}
 use Rattle.codes.specs.CodesTell.{code-along}
 use Rattle.codes.specs.Decoded.{decoded-pattern, decoded-code}
 use Rattle.growth.specs.Catalogue.{Entry, entry, Entry-of, List-of}
-use Rattle.growth.specs.Family.{Listable, Closed, Decidable, Kept-by-maps, entry-for}
+use Rattle.growth.specs.Family.{Listable, Closed, Family, Kept-by-maps, entry-for}
 use Rattle.growth.specs.FamilyLaws.{listable-prefix, decide-listable}
-use Rattle.growth.specs.Growth.{Listed, listed-there}
+use Rattle.growth.specs.Growth.{Listed, Listed-by, listed-leaf, listed-there, listed-siblings}
 
 pub entry-eq : (e g : Entry) → e .support ≡ g .support → e .code ≡ g .code → e ≡ g
 entry-eq e g p q = λ x. record { support = p x; code = q x }
@@ -101,18 +103,34 @@ module _ (labels : Rec → Rec → Bool) (o : Label-order labels) (Wanted : Draw
           simple : Simple p
           simple = pattern-from-test p k .simple
 
-  -- THERE IS ONE
-  pub list-exists :
-      Decidable Wanted → (next : List Rec → List Rec)
-      → ((γ : List Rec) (e : Rec) (rest : List Rec) → Listable labels Wanted (γ ++ e ∷ rest) → Mem e (next γ))
-      → (es : List Entry) × List-of labels Wanted figure l es
-  list-exists decide next all =
-      let t =
-      listed-there labels o (Listable labels Wanted) l (listable-prefix labels o Wanted closed) (decide-listable labels o Wanted decide)
-      next all l [] (omega arith) in
-      (map (entry-for figure) (t .0), listed-list (t .0) (t .1))
+-- WHAT GOES ON from a code can be listed, all of it or by some next records
+module _ (labels : Rec → Rec → Bool) (o : Label-order labels) (Wanted : Drawing → Type 0) (l : ℕ) (f : Family labels Wanted) where
+  decide : (rs : List Rec) → Listable labels Wanted rs ⊎ (Listable labels Wanted rs → ⊥)
+  decide = decide-listable labels o Wanted (f .decided)
+
+  pub below-there : (γ : List Rec) → (cs : List (List Rec)) × Listed labels o (Listable labels Wanted) l γ cs
+  below-there γ = go (decLe (length γ) l)
+    where
+      go : Dec (length γ ≤ l) → (cs : List (List Rec)) × Listed labels o (Listable labels Wanted) l γ cs
+      go (yes h) =
+          listed-there labels o (Listable labels Wanted) l (listable-prefix labels o Wanted (f .closed)) decide (f .next) (f .all) (l - length γ) γ
+          (omega arith)
+      go (no h) = ([], listed-leaf labels o (Listable labels Wanted) l γ (omega arith))
+
+  pub rest-there :
+      (γ : List Rec) → length γ < l → (es : List Rec) → Rises (rec-before-by labels) es
+      → (cs : List (List Rec)) × Listed-by labels o (Listable labels Wanted) l γ es cs
+  rest-there γ h =
+      listed-siblings labels o (Listable labels Wanted) l (listable-prefix labels o Wanted (f .closed)) decide (f .next) (f .all) γ h
+      (λ e. below-there (snoc γ e))
 
 module _ (labels : Rec → Rec → Bool) (o : Label-order labels) (Wanted : Drawing → Type 0) (figure : Drawing → ℕ) (l : ℕ) where
+  -- THERE IS ONE
+  pub list-exists : Family labels Wanted → Kept-by-maps figure → (es : List Entry) × List-of labels Wanted figure l es
+  list-exists f kept =
+      let t = below-there labels o Wanted l f [] in
+      (map (entry-for figure) (t .0), listed-list labels o Wanted figure l (f .closed) kept (t .0) (t .1))
+
   -- AND NO OTHER
   same-entries : (es gs : List Entry) → List-of labels Wanted figure l es → List-of labels Wanted figure l gs → (e : Entry) → Mem e es → Mem e gs
   same-entries es gs a b e m =

@@ -20,7 +20,7 @@ use Rattle.codes.specs.ReadRows.{good-from-test}
 use Rattle.codes.specs.Greedy.{Fits}
 use Rattle.codes.specs.LeastExtension.{candidates, fits-candidate}
 use Rattle.growth.specs.Catalogue.{Often, support-in}
-use Rattle.growth.specs.Family.{Listable, Closed, Decidable, Kept-by-maps}
+use Rattle.growth.specs.Family.{Listable, Closed, Decidable, Family, Kept-by-maps}
 use Rattle.growth.specs.FamilyLaws.{contained-fits, listable-prefix, decide-listable}
 
 -- what has support some drawing contains
@@ -83,3 +83,13 @@ module _ (labels : Rec → Rec → Bool) (o : Label-order labels) (cr : List ℕ
       go f =
           let c = some-containing (decoded (snoc γ e)) cr ds (omega (arith, f .wanted)) in
           from (c .0) (c .1) (fits γ (c .0) (accepted f) (c .2))
+
+  -- so frequent patterns can be listed
+  pub often-family : 1 ≤ s → Family labels (Often cr ds s)
+  often-family one =
+      record {
+        closed = often-closed cr ds s;
+        decided = often-decided cr ds s;
+        next = λ γ. survey-candidates;
+        all = λ γ e rest. frequent-candidate one γ e rest;
+      }

@@ -2,9 +2,9 @@
 -- records lists it, rising, each once. Rests on the order of codes. Assumes nothing.
 use mathlib.Core.Path.{_≡_, refl, sym, ap, _∙_, subst}
 use mathlib.Core.Bool.{Bool, true}
-use mathlib.Core.List.{List, [], _∷_, _++_, append-assoc, append-nil}
+use mathlib.Core.List.{List, [], _∷_, _++_, append-assoc}
 use mathlib.Core.Logic.{_⊎_, inl, inr}
-use Prim.Native.Nat.{ℕ, zero, suc, _+_, _-_, _≤_, _<_}
+use Prim.Native.Nat.{ℕ, zero, suc, _+_, _-_, _≤_}
 use native.Mathlib.Omega.{arith}
 use lib.ListN.{length, length-append}
 use Rattle.laws.specs.Lists.{Mem, snoc, snoc-length, mem-front, mem-back, mem-cases}
@@ -133,11 +133,11 @@ module _ (labels : Rec → Rec → Bool) (o : Label-order labels) (good : List R
     -- THERE IS SUCH A LIST, if what is good can be decided and some list holds every next record that matters
     module _ (decide : (c : List Rec) → good c ⊎ (good c → ⊥)) (candidates : List Rec → List Rec)
         (all : (γ : List Rec) (e : Rec) (more : List Rec) → good (γ ++ e ∷ more) → Mem e (candidates γ)) where
-      siblings :
+      pub listed-siblings :
           (γ : List Rec) → suc (length γ) ≤ l → ((e : Rec) → (cs : List (List Rec)) × Listed (snoc γ e) cs) → (es : List Rec)
           → Rises (rec-before-by labels) es → (cs : List (List Rec)) × Listed-by γ es cs
-      siblings γ n below [] r = ([], listed-none γ)
-      siblings γ n below (e ∷ es) r = go (decide (snoc γ e)) (siblings γ n below es (rises-tail (rec-before-by labels) e es r))
+      listed-siblings γ n below [] r = ([], listed-none γ)
+      listed-siblings γ n below (e ∷ es) r = go (decide (snoc γ e)) (listed-siblings γ n below es (rises-tail (rec-before-by labels) e es r))
         where
           go : good (snoc γ e) ⊎ (good (snoc γ e) → ⊥) → (cs : List (List Rec)) × Listed-by γ es cs → (cs : List (List Rec)) × Listed-by γ (e ∷ es) cs
           go (inl g) (ds, u) =
@@ -152,7 +152,7 @@ module _ (labels : Rec → Rec → Bool) (o : Label-order labels) (good : List R
       listed-there (suc n) γ h =
           let es = sorted (rec-before-by labels) (candidates γ) in
           let r = sorted-rises (rec-before-by labels) (rec-before-strict labels o) (candidates γ) in
-          let t = siblings γ (omega arith) (λ e. listed-there n (snoc γ e) (rw snoc-length (omega arith))) es r in (
+          let t = listed-siblings γ (omega arith) (λ e. listed-there n (snoc γ e) (rw snoc-length (omega arith))) es r in (
             t .0,
             listed-all γ es (t .0)
                 (λ e more g. sorted-has (rec-before-by labels) (rec-before-strict labels o) e (candidates γ) (all γ e more g)) (t .1),

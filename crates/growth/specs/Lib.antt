@@ -7,6 +7,8 @@ pub mod Sheets
 pub mod Cells
 pub mod Mined
 pub mod Entries
+pub mod Page
+pub mod Listings
 -- Laws over them.
 pub mod Settings
 pub mod Growth
@@ -18,8 +20,6 @@ pub mod SurveySizes
 pub mod Catalogues
 pub mod FigureLists
 pub mod Marks
-pub mod Output
-pub mod Listings
 pub mod CellLaws
 pub mod RecordOrder
 pub mod PlaceLaws
@@ -32,6 +32,7 @@ pub mod Firsts
 pub mod Walking
 pub mod MinedLaws
 pub mod EntryLaws
+pub mod PageLaws
 pub mod ListingLaws
 pub mod SheetLaws
 pub mod SheetNotes

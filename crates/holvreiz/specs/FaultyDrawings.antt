@@ -17,7 +17,11 @@ use Rattle.books.specs.Book.{Small, unsupported, book-refusal}
 use Rattle.records.specs.declared.catalogued.Catalogued.{Catalogued}
 use Rattle.records.specs.Catalogued.{catalogued-refusal}
 use Rattle.entries.specs.Written.{Entries-written, List-as, List-says}
+use Rattle.records.specs.declared.list_checked.ListChecked.{ListChecked}
+use Rattle.records.specs.declared.list_checked.ListChecked.the-variants.{Yes, No, Refused}
+use Rattle.records.specs.ListsChecked.{list-refusal}
 use Rattle.mining.specs.CatalogueSays.{Catalogue-says}
+use Rattle.mining.specs.CheckSays.{Told-by, check-refusal, Check-as, Check-says}
 use Rattle.pattern_book.specs.BookSays.{Book-says}
 
 -- THE DRAWING AT FAULT, or 0 where none is
@@ -84,3 +88,22 @@ says-drawing bs s l r o z =
 pub book-drawing : (a b l : ℕ) (r : Catalogued) (o z : List ℕ) → Book-says a b l r o z → catalogued-refusal r .drawing < 32
 unfolding surveys.refusal
 book-drawing a b l r o z = list-drawing (surveys.refusal (book-refusal a b l) 0) (Small a b) unsupported l r o z (lit< tt)
+
+-- so is that in the answer of a list's check
+refusal-drawing : (bs : List ℕ) (s l : ℕ) (list : List ℕ) → check-refusal bs s l list .drawing < 32
+unfolding check-refusal surveys.refusal
+refusal-drawing bs s l list =
+    either-drawing 32 (lit< tt) (eqb (survey-refusal bs s l .number) 0) _ _ (lit< tt) (survey-drawing bs s l)
+
+pub check-drawing : (bs : List ℕ) (s l : ℕ) (list : List ℕ) (r : ListChecked) → Check-says bs s l list r → list-refusal r .drawing < 32
+unfolding surveys.refusal
+check-drawing bs s l list r says = go (check-refusal bs s l list .number) says
+  where
+    told : (A : Type 0) (r : ListChecked) → Told-by r A → list-refusal r .drawing < 32
+    told A Yes w = lit< tt
+    told A No w = lit< tt
+    told A (Refused f d) w = absurd w
+
+    go : (n : ℕ) → Check-as n (check-refusal bs s l list) bs s l list r → list-refusal r .drawing < 32
+    go zero w = told _ r (w .2)
+    go (suc n) w = rw w (refusal-drawing bs s l list)

@@ -16,9 +16,12 @@ use Rattle.matching.specs.declared.answer.Sameness.{Sameness}
 use Rattle.matching.specs.MatchAnswers.{match-refusal, match-count, same-refusal, same-value, Match-says, Same-says}
 use Rattle.records.specs.declared.catalogued.Catalogued.{Catalogued}
 use Rattle.records.specs.Catalogued.{catalogued-refusal, catalogued-count}
+use Rattle.records.specs.declared.list_checked.ListChecked.{ListChecked}
+use Rattle.records.specs.ListsChecked.{list-refusal, list-value}
 use Rattle.mining.specs.CatalogueSays.{Catalogue-says}
+use Rattle.mining.specs.CheckSays.{Check-says}
 use Rattle.pattern_book.specs.BookSays.{Book-says}
-use Rattle.holvreiz.specs.Packed.{packed, packed-numbers}
+use Rattle.answer_numbers.specs.Packed.{packed, packed-numbers}
 
 pub record Code-returns (drawing : List ℕ) (x : ℕ) (out out-now : List ℕ) : Type 0 where
   pub answer : Written
@@ -59,3 +62,8 @@ pub record Book-returns (a b l x : ℕ) (out out-now : List ℕ) : Type 0 where
   pub answer : Catalogued
   pub says : Book-says a b l answer out out-now
   pub number : x ≡ packed (catalogued-refusal answer .number) (catalogued-count answer) (catalogued-refusal answer .drawing)
+
+pub record Check-returns (survey : List ℕ) (s l : ℕ) (list : List ℕ) (x : ℕ) : Type 0 where
+  pub answer : ListChecked
+  pub says : Check-says survey s l list answer
+  pub number : x ≡ packed (list-refusal answer .number) (list-value answer) (list-refusal answer .drawing)

@@ -1,24 +1,11 @@
-// The catalogue and the book for other languages.
-use crate::number::counted;
-use crate::number::refused;
+// The catalogue, the book and the check of a list for other languages.
+use answer_numbers::answers::catalogued_number;
+use answer_numbers::answers::list_number;
 use mining::catalogue::write_catalogue;
+use mining::check::check_list;
+use mining::check::check_usual;
 use pattern_book::book::write_book;
-use records::catalogued::Catalogued;
-ghost use mathlib.Core.Path.{_≡_};
-ghost use Prim.Native.Nat.{_<_};
-ghost use Rattle.records.specs.Catalogued.{catalogued-refusal, catalogued-count};
-ghost use Rattle.holvreiz.specs.Packed.{packed};
-ghost use Rattle.holvreiz.specs.Returns.{Catalogue-returns, Book-returns};
-
-fn catalogued_number(answer: Catalogued) -> u64
-    requires { ⌜ catalogued-refusal answer .drawing < 32 ⌝ }
-    ensures { λ r. ⌜ r ≡ packed (catalogued-refusal answer .number) (catalogued-count answer) (catalogued-refusal answer .drawing) ⌝ }
-{
-    match answer {
-        Catalogued::Entries(n) => counted(n),
-        Catalogued::Refused(reason, drawing) => refused(reason, drawing),
-    }
-}
+ghost use Rattle.holvreiz.specs.Returns.{Catalogue-returns, Book-returns, Check-returns};
 
 // The catalogue of a survey: the patterns of at most `limit` cables that drawings of at least `threshold` cranes contain. The count is
 // the number of entries written.
@@ -41,4 +28,20 @@ pub extern "C" fn holvreiz_book(a: u32, b: u32, limit: u32, output: &mut [u8]) -
     ensures { λ r. ⌜ Book-returns a b limit r (now (output .entry)) (now (output .exit)) ⌝ }
 {
     catalogued_number(write_book(a, b, limit, output))
+}
+
+// Whether a list is the catalogue that `holvreiz_catalogue` would write. The count is 1 for yes, 0 for no.
+#[no_mangle]
+pub extern "C" fn holvreiz_check_list(survey: &[u8], threshold: u32, limit: u32, list: &[u8]) -> u64
+    ensures { λ r. ⌜ Check-returns (now (survey .entry)) threshold limit (now (list .entry)) r ⌝ }
+{
+    list_number(check_list(survey, threshold, limit, list))
+}
+
+// The same of the usual catalogue: what drawings of at least two cranes contain, up to four cables.
+#[no_mangle]
+pub extern "C" fn holvreiz_check_usual(survey: &[u8], list: &[u8]) -> u64
+    ensures { λ r. ⌜ Check-returns (now (survey .entry)) 2 4 (now (list .entry)) r ⌝ }
+{
+    list_number(check_usual(survey, list))
 }

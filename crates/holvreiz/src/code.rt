@@ -1,47 +1,12 @@
 // Coding for other languages: the least code of a drawing, the drawing of a code, the least test, the order of two codes.
-use crate::number::counted;
-use crate::number::refused;
-use code_checks::answer::Compared;
-use code_checks::answer::Verdict;
-use code_checks::answer::Written;
+use answer_numbers::answers::compared_number;
+use answer_numbers::answers::verdict_number;
+use answer_numbers::answers::written_number;
 use coding::code::code_drawing;
 use coding::least::is_least;
 use comparing::compare::compare;
 use decoding::decode::decode;
-ghost use mathlib.Core.Path.{_≡_};
-ghost use Rattle.code_checks.specs.Answers.{written-numbers, verdict-numbers, compared-numbers};
-ghost use Rattle.holvreiz.specs.Packed.{packed-numbers};
 ghost use Rattle.holvreiz.specs.Returns.{Code-returns, Decode-returns, Least-returns, Compare-returns};
-
-fn written_number(answer: Written) -> u64
-    ensures { λ r. ⌜ r ≡ packed-numbers (written-numbers answer) ⌝ }
-{
-    match answer {
-        Written::Bytes(n) => counted(n),
-        Written::Refused(reason) => refused(reason, 0),
-    }
-}
-
-fn verdict_number(answer: Verdict) -> u64
-    ensures { λ r. ⌜ r ≡ packed-numbers (verdict-numbers answer) ⌝ }
-{
-    match answer {
-        Verdict::No => counted(0),
-        Verdict::Yes => counted(1),
-        Verdict::Refused(reason) => refused(reason, 0),
-    }
-}
-
-fn compared_number(answer: Compared) -> u64
-    ensures { λ r. ⌜ r ≡ packed-numbers (compared-numbers answer) ⌝ }
-{
-    match answer {
-        Compared::Equal => counted(0),
-        Compared::Before => counted(1),
-        Compared::After => counted(2),
-        Compared::Refused(reason) => refused(reason, 0),
-    }
-}
 
 // The least code of a drawing. The count is the number of bytes written.
 #[no_mangle]

@@ -3,4 +3,3 @@
 pub mod code; // code.rt: coding, decoding, the least test, comparing
 pub mod map; // map.rt: matching and sameness
 pub mod catalogue; // catalogue.rt: the catalogue and the book
-mod number; // number.rt: an answer as one number

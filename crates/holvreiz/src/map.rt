@@ -1,34 +1,9 @@
 // Matching for other languages: the least map of a pattern into a drawing, and whether two drawings are the same.
-use crate::number::counted;
-use crate::number::refused;
-use matching::answer::Matched;
-use matching::answer::Sameness;
+use answer_numbers::answers::matched_number;
+use answer_numbers::answers::sameness_number;
 use matching::map::match_drawing;
 use matching::same::same;
-ghost use mathlib.Core.Path.{_≡_};
-ghost use Rattle.matching.specs.MatchAnswers.{match-refusal, match-count, same-refusal, same-value};
-ghost use Rattle.holvreiz.specs.Packed.{packed};
 ghost use Rattle.holvreiz.specs.Returns.{Match-returns, Same-returns};
-
-fn matched_number(answer: Matched) -> u64
-    ensures { λ r. ⌜ r ≡ packed (match-refusal answer) (match-count answer) 0 ⌝ }
-{
-    match answer {
-        Matched::Map(n) => counted(n),
-        Matched::NotContained => counted(0),
-        Matched::Refused(reason) => refused(reason, 0),
-    }
-}
-
-fn sameness_number(answer: Sameness) -> u64
-    ensures { λ r. ⌜ r ≡ packed (same-refusal answer) (same-value answer) 0 ⌝ }
-{
-    match answer {
-        Sameness::No => counted(0),
-        Sameness::Yes => counted(1),
-        Sameness::Refused(reason) => refused(reason, 0),
-    }
-}
 
 // The least map of a pattern into a drawing. The count is the number of the pattern's devices, 0 where it is not contained.
 #[no_mangle]

@@ -93,3 +93,16 @@ module _ {A : Type 0} where
         go : Dec (j < k) → row w j (put-record w k r xs) ≡ row w j xs
         go (yes p) = before j (omega (arith, mul-suc w j, mul-le-mul-left {m = suc j} {n = k} w p))
         go (no p) = after j (omega (arith, mul-suc w k, mul-le-mul-left {m = suc k} {n = j} w (omega arith)))
+
+    -- A RECORD THAT IS THERE ALREADY changes nothing
+    pub put-there : row w k xs ≡ r → put-record w k r xs ≡ xs
+    unfolding put-record row
+    put-there e =
+        append-assoc (take (w * k) xs) r (drop (w * k + w) xs)
+        ∙ ap (λ (l : List A). take (w * k) xs ++ l)
+        (ap₂ (λ (a b : List A). a ++ b) (sym e) (sym (drop-drop w (w * k) xs)) ∙ take-append-drop w (drop (w * k) xs))
+        ∙ take-append-drop (w * k) xs
+
+    -- and one that changes nothing is there
+    pub there-put : put-record w k r xs ≡ xs → row w k xs ≡ r
+    there-put e = ap (row w k) (sym e) ∙ put-same

@@ -1,6 +1,6 @@
 -- Writing the book: the refusals of its settings, and what the walk over all first records has written. Rests on SmallGrowth and WrittenLaws.
 -- Assumes nothing.
-use mathlib.Core.Path.{_≡_, refl, sym, ap, subst}
+use mathlib.Core.Path.{_≡_, sym, ap, subst}
 use mathlib.Core.Bool.{true, false}
 use mathlib.Core.List.{List, []}
 use Prim.Native.Nat.{ℕ, _≤_, _<_}
@@ -8,30 +8,26 @@ use native.Mathlib.Omega.{arith}
 use lib.Dec.{leb}
 use lib.ListN.{length, replicate}
 use borrow.Author.Tests.{le-leb, lt-leb}
-use Rattle.laws.specs.Lists.{concat}
 use Rattle.graphs.specs.Survey as surveys
-use Rattle.codes.specs.Code.{Rec, fresh, recs-in, rows-refusal, decoded, kinds-before}
+use Rattle.codes.specs.Code.{Rec, fresh, rows-refusal, decoded, kinds-before}
 use Rattle.codes.specs.CodeFronts.{no-records}
 use Rattle.codes.specs.CodeOrder.{kinds-order}
 use Rattle.codes.specs.ReadRows.{rows-nil}
-use Rattle.growth.specs.Catalogue.{all-bytes}
 use Rattle.growth.specs.Family.{Listable}
-use Rattle.growth.specs.Growth.{Listed, Listed-by}
-use Rattle.growth.specs.Walking.{Ahead-of}
-use Rattle.growth.specs.Listings.{Lists}
+use Rattle.growth.specs.Growth.{Listed}
+use Rattle.growth.specs.ListingLaws.{lists-none}
 use Rattle.records.specs.declared.refusal.Refusal.the-variants.{OutputLength, KindCount, BookLimit}
 use Rattle.records.specs.declared.catalogued.Catalogued.{Catalogued}
 use Rattle.records.specs.declared.catalogued.Catalogued.the-variants.{Entries, Refused}
 use Rattle.records.specs.Catalogued.{catalogued-refusal}
 use Rattle.entries.specs.declared.output.Growth.{Growth}
-use Rattle.entries.specs.declared.output.Growth.the-variants.{To, Full}
+use Rattle.entries.specs.declared.output.Growth.the-variants.{To, Stopped}
 use Rattle.entries.specs.ListOutcomes.{Outcome}
 use Rattle.entries.specs.Written.{List-written}
-use Rattle.entries.specs.WrittenLaws.{list-written, list-too-long, says-refused, says-list}
+use Rattle.entries.specs.WrittenLaws.{outcome-as, list-written, list-too-long, says-refused, says-list}
 use Rattle.books.specs.Book.{Small, unsupported, one-to-three, book-refusal}
-use Rattle.books.specs.SmallRecords.{width, next-count, numbered-below}
+use Rattle.books.specs.SmallRecords.{width}
 use Rattle.books.specs.SmallFamily.{small-closed, small-none, unsupported-kept}
-use Rattle.books.specs.Books.{book-exists}
 use Rattle.small_patterns.specs.declared.next.BookBounds.{BookBounds}
 use Rattle.small_patterns.specs.SmallWalk.{Asked, Few, Small-held, Can-walk-small, Small-walked}
 use Rattle.small_patterns.specs.SmallGrowth.{small-all}
@@ -62,33 +58,11 @@ module _ {g : BookBounds} (few : Few g) (some : 1 ≤ g .limit) {code : List ℕ
 
   -- AND HAS WRITTEN all that goes on from there
   module _ {out z now : List ℕ} {r : Growth} (w : Small-walked g code 0 1 out 0 r now z) where
-    nothing : Lists unsupported [] out out 0
-    unfolding all-bytes concat
-    nothing = record { count-is = refl; bytes = refl }
-
-    nothing-ahead : Ahead-of kinds-before kinds-order (Asked g) (g .limit) [] (recs-in 0 code) (numbered-below 1 (next-count 1))
-    unfolding Rattle.laws.specs.Rising.Rises
-    nothing-ahead = record { done = record { rise = tt; right = λ c m. elim m [ ] }; earlier = λ e m c k. elim k [ ] }
-
-    pub book-grown : Outcome (Asked g) unsupported (g .limit)
-        (Listed kinds-before kinds-order (Listable kinds-before (Asked g)) (g .limit) []) [] out z r
-    book-grown = go r (w .told [] out nothing-ahead nothing)
-      where
-        go : (v : Growth)
-            → Outcome (Asked g) unsupported (g .limit)
-            (Listed-by kinds-before kinds-order (Listable kinds-before (Asked g)) (g .limit) (recs-in 0 code)
-            (numbered-below 1 (next-count 1))) [] out z v
-            → Outcome (Asked g) unsupported (g .limit) (Listed kinds-before kinds-order (Listable kinds-before (Asked g)) (g .limit) []) [] out z v
-        go (To k) x =
-            record {
-              more = x .more;
-              which =
-                  subst (λ (γ : List Rec). Listed kinds-before kinds-order (Listable kinds-before (Asked g)) (g .limit) γ (x .more)) (no-records code)
-                  (small-all few held (x .more) (x .which));
-              lists = x .lists;
-              room = x .room;
-            }
-        go Full x = x
+    pub book-grown : Outcome false unsupported (Listed kinds-before kinds-order (Listable kinds-before (Asked g)) (g .limit) []) [] out z r
+    book-grown =
+        outcome-as false unsupported
+        (λ more t. subst (λ (γ : List Rec). Listed kinds-before kinds-order (Listable kinds-before (Asked g)) (g .limit) γ more) (no-records code)
+        (small-all few held more t)) [] out z r (w .told [] out (lists-none unsupported out))
 
   -- THE BOOK, or 15
   pub book-written :
@@ -98,10 +72,11 @@ module _ {g : BookBounds} (few : Few g) (some : 1 ≤ g .limit) {code : List ℕ
       (book-grown w) (w .size)
 
   pub book-too-long :
-      {out y now z : List ℕ} → Small-walked g code 0 1 out 0 Full now y → z ≡ replicate (length y) 0
+      {out y now z : List ℕ} → Small-walked g code 0 1 out 0 Stopped now y → z ≡ replicate (length y) 0
       → List-written (Asked g) unsupported (g .limit) out (Refused OutputLength 0) z
   book-too-long {out} {y} {now} {z} w is =
-      list-too-long (Asked g) unsupported (g .limit) (book-exists (g .devices) (g .cables) (g .limit)) out y z (book-grown w) (w .size) is
+      list-too-long (Asked g) unsupported (g .limit) (small-closed (g .devices) (g .cables)) unsupported-kept (omega (arith, few .limit)) out y z
+      (book-grown w) (w .size) is
 
 -- THE OUTCOME OF THE CALL
 module _ (a b l : ℕ) (o z : List ℕ) where

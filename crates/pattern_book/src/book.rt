@@ -36,7 +36,7 @@ fn write_small(bounds: BookBounds, output: &mut [u8]) -> Catalogued
     let mut code = [0; Code::BYTES];
     match walk_small(bounds, &mut code, 0, 1, output, 0) {
         Growth::To(entries) => Catalogued::Entries(entries),
-        Growth::Full => {
+        Growth::Stopped => {
             clear(output);
             Catalogued::Refused(Refusal::OutputLength, 0)
         }

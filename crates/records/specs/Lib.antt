@@ -4,6 +4,7 @@ pub mod DrawingCables
 pub mod Surveys
 pub mod Codes
 pub mod Catalogued
+pub mod ListsChecked
 -- Laws over them.
 pub mod Refusals
 pub mod RefusalLaws

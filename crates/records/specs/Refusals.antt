@@ -21,6 +21,7 @@ use Rattle.records.specs.declared.refusal.Refusal.the-variants.{
   OutputLength,
   KindCount,
   BookLimit,
+  ListLength,
 }
 use Rattle.records.specs.declared.refusal.Checked.{Checked}
 use Rattle.records.specs.declared.refusal.Checked.the-variants.{Accepted, Refused}
@@ -43,6 +44,7 @@ number-of SurveyLength = 14
 number-of OutputLength = 15
 number-of KindCount = 16
 number-of BookLimit = 17
+number-of ListLength = 18
 
 -- 0 where there is nothing to refuse
 abbrev pub checked-number : Checked → ℕ
@@ -58,8 +60,8 @@ or-else (Refused r) c = Refused r
 unfoldable pub first-of : ℕ → ℕ → ℕ
 first-of a b = cond (eqb a 0) b a
 
--- THE NUMBERS of the paper are 1 to 17
-pub number-range : (r : Refusal) → (0 < number-of r) × (number-of r ≤ 17)
+-- THE NUMBERS of the paper are 1 to 18
+pub number-range : (r : Refusal) → (0 < number-of r) × (number-of r ≤ 18)
 number-range DrawingLength = (lit< tt, lit≤ tt)
 number-range DeviceCount = (lit< tt, lit≤ tt)
 number-range CableCount = (lit< tt, lit≤ tt)
@@ -77,10 +79,11 @@ number-range SurveyLength = (lit< tt, lit≤ tt)
 number-range OutputLength = (lit< tt, lit≤ tt)
 number-range KindCount = (lit< tt, lit≤ tt)
 number-range BookLimit = (lit< tt, lit≤ tt)
+number-range ListLength = (lit< tt, lit≤ tt)
 
 -- a refusal is told from an acceptance by its number
 pub number-positive : (r : Refusal) → 0 < number-of r
 number-positive r = number-range r .0
 
-pub number-small : (r : Refusal) → number-of r ≤ 17
+pub number-small : (r : Refusal) → number-of r ≤ 18
 number-small r = number-range r .1

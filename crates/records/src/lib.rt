@@ -6,4 +6,5 @@ pub mod survey; // survey.rt: drawings one after another
 pub mod code; // code.rt: a code under work
 pub mod entry; // entry.rt: an entry of a catalogue
 pub mod catalogued; // catalogued.rt: what writing a catalogue answers
+pub mod list_checked; // list_checked.rt: what the check of a list answers
 pub mod bytes; // bytes.rt: a byte that may be missing, bytes that are cleared

@@ -21,6 +21,7 @@ pub enum Refusal {
     OutputLength,
     KindCount,
     BookLimit,
+    ListLength,
 }
 
 // What a check says: nothing to refuse, or the first reason to.
@@ -51,5 +52,6 @@ pub fn number(r: Refusal) -> u32
         Refusal::OutputLength => 15,
         Refusal::KindCount => 16,
         Refusal::BookLimit => 17,
+        Refusal::ListLength => 18,
     }
 }

@@ -1,16 +1,13 @@
 -- Growing the codes of small patterns: what is listed when an entry does not fit, is as large as the limit, or the records that may come next were
--- walked; and what is listed after each of these. An instance of ListingLaws. Rests on SmallNext. Assumes nothing.
+-- walked; and what is listed after each of these. An instance of ListingLaws. Rests on SmallNext and Books. Assumes nothing.
 use mathlib.Core.Path.{_≡_, refl, sym, ap, _∙_, subst}
 use mathlib.Core.Bool.{Bool, true, false, cond}
-use mathlib.Core.List.{List, [], _∷_, _++_}
-use mathlib.Core.Logic.{_⊎_, inl, inr}
+use mathlib.Core.List.{List, _++_}
 use Prim.Native.Nat.{ℕ, _+_, _*_, _≤_, _<_}
 use native.Mathlib.Omega.{arith}
 use lib.Dec.{ltb}
 use lib.ListN.{length}
-use Rattle.laws.specs.Lists.{Mem, snoc, mem-cases}
-use Rattle.laws.specs.Selections.{mem-one}
-use Rattle.laws.specs.PutRecords.{put-record}
+use Rattle.laws.specs.Lists.{Mem, snoc}
 use Rattle.laws.specs.PutRecordLaws.{put-length}
 use Rattle.codes.specs.Code.{Rec, fresh, recs-in, rows-refusal, decoded, kinds-before, rec-before-by}
 use Rattle.codes.specs.CodeBytes.{recs-in-length}
@@ -22,27 +19,29 @@ use Rattle.growth.specs.EntryLaws.{entry-size}
 use Rattle.growth.specs.Family.{Listable}
 use Rattle.growth.specs.FamilyLaws.{listable-prefix}
 use Rattle.growth.specs.Growth.{Listed, Listed-by, listed-all}
-use Rattle.growth.specs.Output.{Ahead}
-use Rattle.growth.specs.Walking.{Gives, Ahead-of, ahead-fewer}
-use Rattle.growth.specs.Listings.{Lists, Lists-more}
+use Rattle.growth.specs.Walking.{Gives}
+use Rattle.growth.specs.Page.{Entry-handed}
+use Rattle.growth.specs.PageLaws.{lists-next}
+use Rattle.growth.specs.Listings.{Lists, Lists-more, Stops}
 use Rattle.growth.specs.ListingLaws.{
-  lists-next,
-  listed-too-many,
-  listed-ahead,
+  gives-stopped,
   gives-listed,
+  gives-stopped-below,
   gives-leaf,
   none-walked,
-  walked-ahead,
   walked-more,
   walked-past,
+  walked-stopped,
 }
 use Rattle.entries.specs.declared.output.Growth.{Growth}
-use Rattle.entries.specs.declared.output.Growth.the-variants.{To, Full}
+use Rattle.entries.specs.declared.output.Growth.the-variants.{To, Stopped}
 use Rattle.entries.specs.ListOutcomes.{Outcome}
+use Rattle.entries.specs.WrittenLaws.{outcome-as}
 use Rattle.books.specs.Book.{unsupported}
 use Rattle.books.specs.SmallRecords.{width, numbered, next-count, numbered-below}
 use Rattle.books.specs.SmallFamily.{small-closed}
-use Rattle.books.specs.NumberedRecords.{numbered-next, numbered-from, numbered-has, numbered-earlier}
+use Rattle.books.specs.NumberedRecords.{numbered-next, numbered-has, numbered-earlier, numbered-split}
+use Rattle.books.specs.Books.{small-family}
 use Rattle.books.specs.SmallNext.{next-numbered, width-next, width-some, width-most}
 use Rattle.small_patterns.specs.declared.next.BookBounds.{BookBounds}
 use Rattle.small_patterns.specs.SmallWalk.{
@@ -83,31 +82,35 @@ module _ {g : BookBounds} {code : List ℕ} {m n : ℕ} {out : List ℕ} {count 
   own-size : length (recs-in m code) ≡ m
   own-size = recs-in-length m code
 
+  low : length (recs-in m code) ≤ 8
+  low = omega (arith, own-size, a .most, a .few .limit)
+
   -- NO ROOM
-  pub small-full : length out < 42 * count + 42 → Small-grown g code m out count Full code out
-  small-full short =
+  pub small-full : {z : List ℕ} → Entry-handed false (entry-bytes (entry 0 (recs-in m code))) count out false z
+      → Small-grown g code m out count Stopped code z
+  small-full {z} (short, is) =
       record {
         stays = code-stays-same (a .held .long);
-        size = refl;
+        size = ap length is;
         room = omega arith;
-        told = λ cs old p t. listed-too-many (Asked g) unsupported (g .limit) (a .listable) (omega (arith, own-size, a .most)) p t short;
+        told = λ cs old t.
+            subst (Stops false unsupported (Gives kinds-before kinds-order (Asked g) (g .limit) (recs-in m code)) cs) (sym is)
+            (gives-stopped (Asked g) unsupported (g .limit) (a .listable) (omega (arith, own-size, a .most)) (small-family (g .devices) (g .cables))
+            low t short);
       }
 
   -- WRITTEN
-  module _ (room : 42 * count + 42 ≤ length out) {mid : List ℕ} (is : mid ≡ put-record 42 count (entry-bytes (entry 0 (recs-in m code))) out) where
-    pub small-mid-size : length mid ≡ length out
+  module _ {mid : List ℕ} (h : Entry-handed false (entry-bytes (entry 0 (recs-in m code))) count out true mid) where
+    small-mid-size : length mid ≡ length out
     small-mid-size =
-        ap length is
-        ∙ put-length 42 count (entry-bytes (entry 0 (recs-in m code))) out
-        (entry-size (entry 0 (recs-in m code)) (omega (arith, own-size, a .most, a .few .limit))) room
+        ap length (h .1) ∙ put-length 42 count (entry-bytes (entry 0 (recs-in m code))) out (entry-size (entry 0 (recs-in m code)) low) (h .0)
 
-    listed : (cs : List (List Rec)) (old : List ℕ) → Ahead kinds-before kinds-order (Asked g) (g .limit) cs (recs-in m code)
-        → Lists unsupported cs old out count → Lists unsupported (snoc cs (recs-in m code)) old mid (count + 1)
-    listed cs old p t =
-        lists-next unsupported cs (recs-in m code) old out mid count (λ c i. omega (arith, p .done .right c i .1, a .few .limit)) t is
+    listed : (cs : List (List Rec)) (old : List ℕ) → Lists unsupported cs old out count
+        → Lists unsupported (snoc cs (recs-in m code)) old mid (count + 1)
+    listed cs old t = lists-next unsupported cs (recs-in m code) low old out mid count t (h .1)
 
     mid-room : 42 * (count + 1) ≤ length mid
-    mid-room = omega (arith, small-mid-size)
+    mid-room = omega (arith, small-mid-size, h .0)
 
     -- AS LARGE AS THE LIMIT
     pub small-leaf : m ≡ g .limit → Small-grown g code m out count (To (count + 1)) code mid
@@ -116,9 +119,9 @@ module _ {g : BookBounds} {code : List ℕ} {m n : ℕ} {out : List ℕ} {count 
           stays = code-stays-same (a .held .long);
           size = small-mid-size;
           room = mid-room;
-          told = λ cs old p t.
-              gives-leaf (Asked g) unsupported (g .limit) (a .listable) (omega (arith, own-size, a .most)) p (omega (arith, own-size)) mid-room
-              (listed cs old p t);
+          told = λ cs old t.
+              gives-leaf (Asked g) unsupported (g .limit) (a .listable) (omega (arith, own-size, a .most)) (omega (arith, own-size)) mid-room
+              (listed cs old t);
         }
 
     -- SMALLER
@@ -132,21 +135,18 @@ module _ {g : BookBounds} {code : List ℕ} {m n : ℕ} {out : List ℕ} {count 
             stays = w .stays;
             size = w .size ∙ small-mid-size;
             room = w .room;
-            told = λ cs old p t.
-                go cs old p r
-                (w .told (snoc cs (recs-in m code)) old
-                (listed-ahead (Asked g) unsupported (g .limit) (a .listable) (omega (arith, own-size, a .most)) p _) (listed cs old p t));
+            told = λ cs old t.
+                go cs old r
+                (outcome-as false unsupported (small-all (a .few) (a .held)) (snoc cs (recs-in m code)) old z r
+                (w .told (snoc cs (recs-in m code)) old (listed cs old t)));
           }
         where
-          go : (cs : List (List Rec)) (old : List ℕ) → Ahead kinds-before kinds-order (Asked g) (g .limit) cs (recs-in m code) → (r : Growth)
-              → Outcome (Asked g) unsupported (g .limit)
-              (Listed-by kinds-before kinds-order (Listable kinds-before (Asked g)) (g .limit) (recs-in m code) (numbered-below n (next-count n)))
+          go : (cs : List (List Rec)) (old : List ℕ) (r : Growth)
+              → Outcome false unsupported (Listed kinds-before kinds-order (Listable kinds-before (Asked g)) (g .limit) (recs-in m code))
               (snoc cs (recs-in m code)) old z r
-              → Outcome (Asked g) unsupported (g .limit) (Gives kinds-before kinds-order (Asked g) (g .limit) (recs-in m code)) cs old z r
-          go cs old p (To k) x =
-              gives-listed (Asked g) unsupported (g .limit) (a .listable) (omega (arith, own-size, a .most)) p
-              (record { more = x .more; which = small-all (a .few) (a .held) (x .more) (x .which); lists = x .lists; room = x .room })
-          go cs old p Full x = x
+              → Outcome false unsupported (Gives kinds-before kinds-order (Asked g) (g .limit) (recs-in m code)) cs old z r
+          go cs old (To k) x = gives-listed (Asked g) unsupported (g .limit) (a .listable) (omega (arith, own-size, a .most)) x
+          go cs old Stopped x = gives-stopped-below (Asked g) unsupported (g .limit) (a .listable) (omega (arith, own-size, a .most)) x
 
 -- WALKING
 module _ {g : BookBounds} {code : List ℕ} {m n : ℕ} {out : List ℕ} {count : ℕ} (a : Can-walk-small g code m n out count) where
@@ -167,7 +167,7 @@ module _ {g : BookBounds} {code : List ℕ} {m n : ℕ} {out : List ℕ} {count 
         stays = code-stays-same (a .held .long);
         size = refl;
         room = a .room;
-        told = λ cs old b t. none-walked (Asked g) unsupported (g .limit) (recs-in m code) (a .room) t;
+        told = λ cs old t. none-walked (Asked g) unsupported (g .limit) (recs-in m code) (a .room) t;
       }
 
   pub small-ends :
@@ -179,7 +179,7 @@ module _ {g : BookBounds} {code : List ℕ} {m n : ℕ} {out : List ℕ} {count 
         stays = w .stays;
         size = w .size;
         room = w .room;
-        told = λ cs old b t. subst (λ (i : ℕ). Lists-more unsupported (By i) cs old out₁ written) z (w .told cs old b t);
+        told = λ cs old t. subst (λ (i : ℕ). Lists-more unsupported (By i) cs old out₁ written) z (w .told cs old t);
       }
 
   -- ONE RECORD IS TRIED
@@ -192,15 +192,6 @@ module _ {g : BookBounds} {code : List ℕ} {m n : ℕ} {out : List ℕ} {count 
 
     earlier : (x : Rec) → Mem x (numbered-below n k) → rec-before-by kinds-before x (numbered n k) ≡ true
     earlier = numbered-earlier n k (walk-wide .0) high
-
-    among : (x : Rec) → Mem x (snoc (numbered-below n k) (numbered n k)) → Mem x (numbered-below n (next-count n))
-    among x h = go (mem-cases (numbered-below n k) h)
-      where
-        go : Mem x (numbered-below n k) ⊎ Mem x (numbered n k ∷ []) → Mem x (numbered-below n (next-count n))
-        go (inl i) =
-            let t = numbered-from n k i in
-            subst (λ (y : Rec). Mem y (numbered-below n (next-count n))) (t .2) (numbered-has n (next-count n) (t .0) (omega (arith, t .1)))
-        go (inr i) = subst (λ (y : Rec). Mem y (numbered-below n (next-count n))) (mem-one i) (numbered-has n (next-count n) k high)
 
     module _ {e : Rec} (is : e ≡ numbered n k) {code₂ : List ℕ} {r : Bool} (t : Record-tried g code₁ m e r code₂) where
       tried-stays : Code-stays m code code₂
@@ -217,7 +208,7 @@ module _ {g : BookBounds} {code : List ℕ} {m n : ℕ} {out : List ℕ} {count 
             stays = tried-stays;
             size = w .size;
             room = w .room;
-            told = λ cs old b l. step cs old (w .told cs old b l);
+            told = λ cs old l. step cs old (w .told cs old l);
           }
         where
           bad : Listable kinds-before (Asked g) (snoc (recs-in m code) (numbered n k)) → ⊥
@@ -232,9 +223,8 @@ module _ {g : BookBounds} {code : List ℕ} {m n : ℕ} {out : List ℕ} {count 
               subst (λ (es : List Rec). Lists-more unsupported
               (Listed-by kinds-before kinds-order (Listable kinds-before (Asked g)) (g .limit) (recs-in m code) es) cs old out₁ written)
               (sym (numbered-next n k))
-              (walked-past (Asked g) unsupported (g .limit) (small-closed (g .devices) (g .cables)) (recs-in m code) (numbered-below n k)
-              (numbered n k)
-              earlier x bad)
+              (walked-past (Asked g) unsupported (g .limit) (small-family (g .devices) (g .cables)) (recs-in m code) (numbered-below n k)
+              (numbered n k) earlier x bad)
 
       -- LISTED: it is grown
       module _ (yes-one : r ≡ true) where
@@ -274,28 +264,33 @@ module _ {g : BookBounds} {code : List ℕ} {m n : ℕ} {out : List ℕ} {count 
 
         module _ {code₃ out₂ : List ℕ} where
           outcome : {v : Growth} → Small-grown g code₂ (m + 1) out₁ written v code₃ out₂ → (cs : List (List Rec)) (old : List ℕ)
-              → Ahead-of kinds-before kinds-order (Asked g) (g .limit) cs (recs-in m code) (numbered-below n (next-count n))
               → (x : Lists-more unsupported (By k) cs old out₁ written)
-              → Outcome (Asked g) unsupported (g .limit)
-              (Gives kinds-before kinds-order (Asked g) (g .limit) (snoc (recs-in m code) (numbered n k))) (cs ++ x .more) old out₂ v
-          outcome {v} u cs old b x =
-              subst (λ (γ : List Rec). Outcome (Asked g) unsupported (g .limit) (Gives kinds-before kinds-order (Asked g) (g .limit) γ)
-              (cs ++ x .more) old out₂ v)
-              grown-is
-              (u .told (cs ++ x .more) old
-              (subst (Ahead kinds-before kinds-order (Asked g) (g .limit) (cs ++ x .more)) (sym grown-is)
-              (walked-ahead (Asked g) unsupported (g .limit) (small-closed (g .devices) (g .cables)) (recs-in m code) (numbered-below n k)
-              (numbered n k)
-              earlier x (ahead-fewer kinds-before kinds-order (Asked g) (g .limit) among b))) (x .lists))
+              → Outcome false unsupported (Gives kinds-before kinds-order (Asked g) (g .limit) (snoc (recs-in m code) (numbered n k)))
+              (cs ++ x .more) old out₂ v
+          outcome {v} u cs old x =
+              subst (λ (γ : List Rec). Outcome false unsupported (Gives kinds-before kinds-order (Asked g) (g .limit) γ) (cs ++ x .more) old out₂ v)
+              grown-is (u .told (cs ++ x .more) old (x .lists))
 
-          pub small-fills : Small-grown g code₂ (m + 1) out₁ written Full code₃ out₂ → Small-walked g code m n out count Full code₃ out₂
+          pub small-fills : Small-grown g code₂ (m + 1) out₁ written Stopped code₃ out₂ → Small-walked g code m n out count Stopped code₃ out₂
           small-fills u =
               record {
                 stays = after-stays (u .stays);
                 size = u .size ∙ w .size;
                 room = omega arith;
-                told = λ cs old b l. outcome u cs old b (w .told cs old b l);
+                told = λ cs old l. stop cs old (w .told cs old l) (outcome u cs old (w .told cs old l));
               }
+            where
+              stop : (cs : List (List Rec)) (old : List ℕ) → (x : Lists-more unsupported (By k) cs old out₁ written)
+                  → Stops false unsupported (Gives kinds-before kinds-order (Asked g) (g .limit) (snoc (recs-in m code) (numbered n k)))
+                  (cs ++ x .more) out₂
+                  → Stops false unsupported (By (next-count n)) cs out₂
+              stop cs old x y =
+                  let s = numbered-split n k (walk-wide .0) high in
+                  subst (λ (es : List Rec). Stops false unsupported
+                  (Listed-by kinds-before kinds-order (Listable kinds-before (Asked g)) (g .limit) (recs-in m code) es) cs out₂)
+                  (sym (s .whole))
+                  (walked-stopped (Asked g) unsupported (g .limit) (small-family (g .devices) (g .cables)) (recs-in m code) (numbered-below n k)
+                  (numbered n k) earlier x (omega (arith, recs-in-length m code, a .less)) (s .rest) (s .rise) (s .apart) y)
 
           pub small-next : {more : ℕ} → Small-grown g code₂ (m + 1) out₁ written (To more) code₃ out₂
               → Small-so-far g code m n out count (k + 1) code₃ out₂ more
@@ -305,7 +300,7 @@ module _ {g : BookBounds} {code : List ℕ} {m n : ℕ} {out : List ℕ} {count 
                 stays = after-stays (u .stays);
                 size = u .size ∙ w .size;
                 room = u .room;
-                told = λ cs old b l. step cs old (w .told cs old b l) (outcome u cs old b (w .told cs old b l));
+                told = λ cs old l. step cs old (w .told cs old l) (outcome u cs old (w .told cs old l));
               }
             where
               step : (cs : List (List Rec)) (old : List ℕ) → (x : Lists-more unsupported (By k) cs old out₁ written)
@@ -316,6 +311,5 @@ module _ {g : BookBounds} {code : List ℕ} {m n : ℕ} {out : List ℕ} {count 
                   subst (λ (es : List Rec). Lists-more unsupported
                   (Listed-by kinds-before kinds-order (Listable kinds-before (Asked g)) (g .limit) (recs-in m code) es) cs old out₂ more)
                   (sym (numbered-next n k))
-                  (walked-more (Asked g) unsupported (g .limit) (small-closed (g .devices) (g .cables)) (recs-in m code) (numbered-below n k)
-                  (numbered n k)
-                  earlier x y)
+                  (walked-more (Asked g) unsupported (g .limit) (small-family (g .devices) (g .cables)) (recs-in m code) (numbered-below n k)
+                  (numbered n k) earlier x y)

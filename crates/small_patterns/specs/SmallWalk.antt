@@ -15,8 +15,7 @@ use Rattle.code_checks.specs.declared.answer.Verdict.the-variants as verdict
 use Rattle.coding.specs.LeastSays.{Least-says}
 use Rattle.growth.specs.Family.{Listable}
 use Rattle.growth.specs.Growth.{Listed-by}
-use Rattle.growth.specs.Output.{Ahead}
-use Rattle.growth.specs.Walking.{Gives, Ahead-of}
+use Rattle.growth.specs.Walking.{Gives}
 use Rattle.growth.specs.Listings.{Lists, Lists-more}
 use Rattle.entries.specs.declared.output.Growth.{Growth}
 use Rattle.entries.specs.ListOutcomes.{Outcome, Room-left}
@@ -79,9 +78,8 @@ pub record Small-grown (g : BookBounds) (code : List ℕ) (m : ℕ) (out : List 
   pub size : length out-now ≡ length out
   pub room : Room-left out-now r
   pub told :
-      (cs : List (List Rec)) (old : List ℕ) → Ahead kinds-before kinds-order (Asked g) (g .limit) cs (recs-in m code)
-      → Lists unsupported cs old out count
-      → Outcome (Asked g) unsupported (g .limit) (Gives kinds-before kinds-order (Asked g) (g .limit) (recs-in m code)) cs old out-now r
+      (cs : List (List Rec)) (old : List ℕ) → Lists unsupported cs old out count
+      → Outcome false unsupported (Gives kinds-before kinds-order (Asked g) (g .limit) (recs-in m code)) cs old out-now r
 
 pub record Can-walk-small (g : BookBounds) (code : List ℕ) (m n : ℕ) (out : List ℕ) (count : ℕ) : Type 0 where
   pub few : Few g
@@ -95,10 +93,8 @@ pub record Small-walked (g : BookBounds) (code : List ℕ) (m n : ℕ) (out : Li
   pub size : length out-now ≡ length out
   pub room : Room-left out-now r
   pub told :
-      (cs : List (List Rec)) (old : List ℕ)
-      → Ahead-of kinds-before kinds-order (Asked g) (g .limit) cs (recs-in m code) (numbered-below n (next-count n))
-      → Lists unsupported cs old out count
-      → Outcome (Asked g) unsupported (g .limit)
+      (cs : List (List Rec)) (old : List ℕ) → Lists unsupported cs old out count
+      → Outcome false unsupported
       (Listed-by kinds-before kinds-order (Listable kinds-before (Asked g)) (g .limit) (recs-in m code)
       (numbered-below n (next-count n))) cs old out-now r
 
@@ -110,8 +106,6 @@ pub record Small-so-far (g : BookBounds) (code : List ℕ) (m n : ℕ) (out : Li
   pub size : length out-now ≡ length out
   pub room : 42 * written ≤ length out-now
   pub told :
-      (cs : List (List Rec)) (old : List ℕ)
-      → Ahead-of kinds-before kinds-order (Asked g) (g .limit) cs (recs-in m code) (numbered-below n (next-count n))
-      → Lists unsupported cs old out count
+      (cs : List (List Rec)) (old : List ℕ) → Lists unsupported cs old out count
       → Lists-more unsupported
       (Listed-by kinds-before kinds-order (Listable kinds-before (Asked g)) (g .limit) (recs-in m code) (numbered-below n k)) cs old out-now written

@@ -8,7 +8,7 @@ use code_checks::answer::Verdict;
 use code_records::record::Record;
 use code_records::record::put_record;
 use coding::least::is_least;
-use entries::entry::put_entry;
+use entries::next::write_next;
 use entries::output::Growth;
 use records::code::Code;
 use records::entry::Entry;
@@ -64,10 +64,10 @@ pub fn grow_small(
     requires { ⌜ Can-grow-small bounds (now code) cables devices (now output) count ⌝ }
     ensures { λ r. ⌜ Small-grown bounds (now (code .entry)) cables (now (output .entry)) count r (now (code .exit)) (now (output .exit)) ⌝ }
 {
-    if output.len() - Entry::BYTES * count < Entry::BYTES {
-        return Growth::Full;
+    let head = Entry::new(cables, 0);
+    if !write_next(code, head, count, output) {
+        return Growth::Stopped;
     }
-    put_entry(code, Entry::new(cables, 0), count, output);
     if cables == bounds.limit {
         return Growth::To(count + 1);
     }
@@ -95,7 +95,7 @@ pub fn walk_small(
             let wider = widened(devices, next);
             let Growth::To(more) = grow_small(bounds, code, cables + 1, wider, output, written)
             else {
-                return Growth::Full;
+                return Growth::Stopped;
             };
             written = more;
         }

@@ -1,19 +1,20 @@
--- Mining a survey, kind by kind of device 0: what it asks, and what stands in the output meanwhile and in the end. Assumes
+-- Mining a survey, kind by kind of device 0: what it asks, and what stands on the page meanwhile and in the end. Assumes
 -- nothing: these are definitions.
 use mathlib.Core.Path.{_≡_}
+use mathlib.Core.Bool.{Bool}
 use mathlib.Core.List.{List, []}
 use Prim.Native.Nat.{ℕ, _+_, _*_, _≤_}
 use lib.ListN.{length}
 use Rattle.codes.specs.Code.{Rec, kinds-before}
 use Rattle.codes.specs.CodeOrder.{kinds-order}
-use Rattle.growth.specs.Catalogue.{Often-in, support-of}
+use Rattle.growth.specs.Catalogue.{support-of}
 use Rattle.growth.specs.Listings.{Lists}
 use Rattle.growth.specs.Growth.{Listed, Listed-by}
 use Rattle.growth.specs.Frequent.{Frequent-in}
 use Rattle.growth.specs.Firsts.{Firsts}
 use Rattle.growth.specs.Sizes.{candidates-size}
 use Rattle.entries.specs.declared.output.Growth.{Growth}
-use Rattle.entries.specs.declared.output.Growth.the-variants.{To, Full}
+use Rattle.entries.specs.declared.output.Growth.the-variants.{To, Stopped}
 use Rattle.growing.specs.declared.grow.Settings.{Settings}
 use Rattle.walks.specs.LabelMarks.{drawings-of, cranes-of}
 use Rattle.walks.specs.Counts.{Blank}
@@ -21,16 +22,18 @@ use Rattle.walks.specs.EmbeddingLists.{Lists-sized}
 use Rattle.growing.specs.GrowthOutcomes.{Set-up}
 use Rattle.entries.specs.ListOutcomes.{Outcome}
 
--- WHAT IT ASKS: the tables of an accepted survey, and settings within their bounds
+-- ALL FREQUENT LEAST CODES are listed, or they cannot stand on the page
+abbrev pub Survey-listed : (survey : List ℕ) (s l : ℕ) (checking : Bool) (out : List ℕ) → Growth → (out-now : List ℕ) → Type 0
+Survey-listed survey s l checking out r z =
+    Outcome checking (support-of survey) (Listed kinds-before kinds-order (Frequent-in kinds-before survey s) l []) [] out z r
+
+-- WITH ITS TABLES at hand
 pub record Can-mine (survey labels rank alphabet : List ℕ) (g : Settings) : Type 0 where
   pub set-up : Set-up survey labels rank alphabet g
   pub some : 1 ≤ g .limit
 
--- ALL FREQUENT LEAST CODES are listed, or they do not fit
 abbrev pub Mined : (survey : List ℕ) (g : Settings) (out : List ℕ) → Growth → (out-now : List ℕ) → Type 0
-Mined survey g out r z =
-    Outcome (Often-in survey (g .threshold)) (support-of survey) (g .limit)
-    (Listed kinds-before kinds-order (Frequent-in kinds-before survey (g .threshold)) (g .limit) []) [] out z r
+Mined survey g = Survey-listed survey (g .threshold) (g .limit) (g .checking)
 
 -- MEANWHILE: those whose device 0 has a kind below k
 pub record Kinds-done (survey : List ℕ) (g : Settings) (out : List ℕ) (k : ℕ) (cells seen list out-now : List ℕ) (written : ℕ) : Type 0 where
@@ -54,12 +57,12 @@ pub record Can-mine-kind
   pub done : Kinds-done survey g out k cells seen list out-now written
   pub sized : Lists-sized kept ends
 
--- what it comes to: those of kind k are done too, or they do not fit
+-- what it comes to: those of kind k are done too, or the list cannot stand there
 abbrev pub After-kind : (survey : List ℕ) (g : Settings) (out : List ℕ) (k : ℕ) (cells seen list out-now : List ℕ) → Growth → Type 0
 After-kind survey g out k cells seen list out-now (To m) = Kinds-done survey g out (k + 1) cells seen list out-now m
-After-kind survey g out k cells seen list out-now Full = Mined survey g out Full out-now
+After-kind survey g out k cells seen list out-now Stopped = Mined survey g out Stopped out-now
 
--- and what it leaves, whatever stood in the output at first
+-- and what it leaves, whatever stood on the page at first
 pub record Kind-mined
     (survey : List ℕ) (g : Settings) (k : ℕ) (cells seen list out : List ℕ) (written : ℕ) (r : Growth)
     (cells-now seen-now list-now kept-now ends-now out-now : List ℕ) : Type 0 where

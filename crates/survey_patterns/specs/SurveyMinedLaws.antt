@@ -1,34 +1,40 @@
--- Mining a survey, kind by kind of device 0. Rests on Firsts and Growths. Assumes nothing.
+-- Mining a survey, kind by kind of device 0; its tables. Rests on Firsts and ListingLaws. Assumes nothing.
 use mathlib.Core.Path.{_≡_, refl, sym, ap, _∙_, subst}
-use mathlib.Core.Bool.{Bool, true, false}
+use mathlib.Core.Bool.{Bool, false}
 use mathlib.Core.List.{List, [], _∷_, _++_, map}
-use Prim.Native.Nat.{ℕ, _+_, _≤_, _<_}
+use Prim.Native.Nat.{ℕ, suc, _+_, _≤_, _<_}
 use native.Mathlib.Numerals.{add-one}
 use native.Mathlib.Omega.{arith}
 use lib.ListN.{length, getD}
-use Rattle.laws.specs.Lists.{concat}
 use Rattle.graphs.specs.Drawing.{Drawing}
-use Rattle.codes.specs.Code.{Rec, fresh, rows-refusal, decoded, kinds-before, before-by}
-use Rattle.codes.specs.CodeOrder.{kinds-order, difference-decides}
+use Rattle.codes.specs.Code.{Rec, fresh, rows-refusal, decoded, kinds-before}
+use Rattle.codes.specs.CodeOrder.{kinds-order}
 use Rattle.codes.specs.Greedy.{Greedy}
 use Rattle.codes.specs.ReadRows.{rows-nil}
-use Rattle.growth.specs.Catalogue.{all-bytes, Often-in}
-use Rattle.growth.specs.Growth.{listed-none}
+use Rattle.growth.specs.Catalogue.{support-of}
+use Rattle.growth.specs.Growth.{Listed-by, listed-none}
 use Rattle.growth.specs.Frequent.{Frequent-in}
 use Rattle.growth.specs.PlacedRecords.{alone}
 use Rattle.growth.specs.CountingExtensions.{First-of, Counting}
 use Rattle.growth.specs.ListedBy.{Chosen-places, Chosen-cells, place-in, records-at, chosen-places, listed-join}
-use Rattle.growth.specs.Firsts.{firsts-none, firsts-skip, firsts-apart, firsts-next, firsts-listed}
-use Rattle.growth.specs.Walking.{Ahead-of}
+use Rattle.growth.specs.Firsts.{Firsts, firsts-none, firsts-skip, firsts-apart, firsts-next, firsts-rest, firsts-listed}
+use Rattle.growth.specs.ListingLaws.{lists-none, stops-further}
 use Rattle.growth.specs.Sizes.{candidates-size}
 use Rattle.entries.specs.declared.output.Growth.{Growth}
-use Rattle.entries.specs.declared.output.Growth.the-variants.{To, Full}
+use Rattle.entries.specs.declared.output.Growth.the-variants.{To, Stopped}
 use Rattle.growing.specs.declared.grow.Settings.{Settings}
 use Rattle.walks.specs.LabelMarks.{drawings-of, cranes-of}
 use Rattle.walks.specs.Counts.{Blank}
 use Rattle.walks.specs.Prepared.{Counted-cells}
 use Rattle.walks.specs.PreparedLaws.{as-many-cranes, prepared-few, prepared-sections}
-use Rattle.walks.specs.SheetTables.{sheets-of}
+use Rattle.walks.specs.SheetTables.{sheets-of, Beside-sheets}
+use Rattle.walks.specs.SheetTableLaws.{tables-beside, bits-beside, sheets-counted}
+use Rattle.walks.specs.DrawingTables.{Tables}
+use Rattle.walks.specs.LabelBits.{Bits-noted}
+use Rattle.growth.specs.Places.{Ranks}
+use Rattle.growth.specs.Settings.{Accepted-settings}
+use Rattle.growth.specs.Sheets.{Sheets-noted}
+use Rattle.graphs.specs.AcceptedSurvey.{accepted-survey}
 use Rattle.laws.specs.Parts.{part}
 use Rattle.walks.specs.Choices.{Of-sets, Can-choose, Chose}
 use Rattle.growing.specs.GrowthOutcomes.{Fit, Can-walk-candidates, Candidates-walked}
@@ -58,7 +64,6 @@ module _ {survey labels rank alphabet : List ℕ} {g : Settings} (a : Can-mine s
   -- THE START: no kind yet
   pub mine-starts :
       {cells seen list : List ℕ} (out : List ℕ) → Blank cells seen → length list ≡ candidates-size → Kinds-done survey g out 0 cells seen list out 0
-  unfolding all-bytes concat
   mine-starts out blank list-size =
       record {
         low = omega arith;
@@ -70,7 +75,7 @@ module _ {survey labels rank alphabet : List ℕ} {g : Settings} (a : Can-mine s
         codes = [];
         first = firsts-none (cranes-of survey) ds (g .threshold);
         listed = listed-none kinds-before kinds-order Wanted (g .limit) [];
-        lists = record { count-is = refl; bytes = refl };
+        lists = lists-none (support-of survey) out;
       }
 
   -- A KIND THAT DOES NOT OCCUR is passed over
@@ -142,34 +147,40 @@ module _ {survey labels rank alphabet : List ℕ} {g : Settings} (a : Can-mine s
             out-room = w .room;
           }
 
-      -- what is listed stands ahead of the codes that begin with this kind
-      ahead : Ahead-of kinds-before kinds-order (Often-in survey (g .threshold)) (g .limit) (w .codes) []
-          (records-at (alone k) alphabet (g .labels) (map place-in (part 0 top list₃)))
-      ahead =
-          record {
-            done = record { rise = w .listed .rise; right = λ x m. let s = w .listed .sound x m in (s .0, s .1) };
-            earlier = λ e m x i.
-                let s = w .listed .sound x i .2 in
-                subst (λ (z : List Rec). before-by kinds-before z (e ∷ []) ≡ true) (sym (s .0 .is))
-                (difference-decides kinds-before kinds-order [] (s .0 .e) e (s .0 .more) []
-                (firsts-apart (a .set-up .one) (w .first) (prepared-sections (a .set-up .prepared)) (a .set-up .prepared .ranks)
-                (c .counting) chosen (s .0 .e) e (s .1) m));
-          }
+      -- the first records of one kind more
+      firsts : Firsts (cranes-of survey) (drawings-of survey) (g .threshold) (suc k)
+          (w .firsts ++ records-at (alone k) alphabet (g .labels) (map place-in (part 0 top list₃)))
+      firsts =
+          firsts-next (a .set-up .one) (w .first) (prepared-sections (a .set-up .prepared)) (a .set-up .prepared .ranks) (c .counting) chosen
+
+      joined : (more : List (List Rec))
+          → Listed-by kinds-before kinds-order (Frequent-in kinds-before survey (g .threshold)) (g .limit) []
+          (records-at (alone k) alphabet (g .labels) (map place-in (part 0 top list₃))) more
+          → Listed-by kinds-before kinds-order (Frequent-in kinds-before survey (g .threshold)) (g .limit) []
+          (w .firsts ++ records-at (alone k) alphabet (g .labels) (map place-in (part 0 top list₃))) (w .codes ++ more)
+      joined more =
+          listed-join kinds-before kinds-order Wanted (g .limit) [] (w .firsts) news (w .codes) more
+          (firsts-apart (a .set-up .one) (w .first) (prepared-sections (a .set-up .prepared)) (a .set-up .prepared .ranks)
+          (c .counting) chosen) (w .listed)
 
       module _ {cells₄ seen₄ list₄ out₄ : List ℕ} where
         went : {r : Growth} → Candidates-walked survey alphabet g k γ cells₄ seen₄ list₃ 0 top list₄ out₁ written r out₄
             → Candidates-walked survey alphabet g k [] cells₄ seen₄ list₃ 0 top list₄ out₁ written r out₄
         went {r} = subst (λ (δ : List Rec). Candidates-walked survey alphabet g k δ cells₄ seen₄ list₃ 0 top list₄ out₁ written r out₄) n
 
-        mine-full : Candidates-walked survey alphabet g k γ cells₄ seen₄ list₃ 0 top list₄ out₁ written Full out₄
-            → Mined survey g out Full out₄
-        mine-full v = went v .told (w .codes) out ahead (w .lists)
+        -- stopped: those of later kinds would come behind
+        mine-stopped : Candidates-walked survey alphabet g k γ cells₄ seen₄ list₃ 0 top list₄ out₁ written Stopped out₄
+            → Mined survey g out Stopped out₄
+        mine-stopped v =
+            let x = went v .told (w .codes) out (w .lists) in
+            let r = firsts-rest (a .set-up .one) firsts (g .limit) (a .some) (w .codes ++ x .more) (joined (x .more) (x .which)) in
+            stops-further x ((w .codes ++ x .more) ++ r .0) (r .0) refl (r .1)
 
         mine-next : {m : ℕ} → k < 256 → Candidates-walked survey alphabet g k γ cells₄ seen₄ list₃ 0 top list₄ out₁ written
             (To m) out₄
             → Kinds-done survey g out (k + 1) cells₄ seen₄ list₄ out₄ m
         mine-next {m} low v =
-            let x = went v .told (w .codes) out ahead (w .lists) in
+            let x = went v .told (w .codes) out (w .lists) in
             record {
               low = omega arith;
               blank = v .blank;
@@ -178,14 +189,8 @@ module _ {survey labels rank alphabet : List ℕ} {g : Settings} (a : Can-mine s
               room = v .room;
               firsts = w .firsts ++ news;
               codes = w .codes ++ x .more;
-              first =
-                  rw add-one
-                  (firsts-next (a .set-up .one) (w .first) (prepared-sections (a .set-up .prepared)) (a .set-up .prepared .ranks)
-                  (c .counting) chosen);
-              listed =
-                  listed-join kinds-before kinds-order Wanted (g .limit) [] (w .firsts) news (w .codes) (x .more)
-                  (firsts-apart (a .set-up .one) (w .first) (prepared-sections (a .set-up .prepared)) (a .set-up .prepared .ranks)
-                  (c .counting) chosen) (w .listed) (x .which);
+              first = rw add-one firsts;
+              listed = joined (x .more) (x .which);
               lists = x .lists;
             }
 
@@ -193,7 +198,7 @@ module _ {survey labels rank alphabet : List ℕ} {g : Settings} (a : Can-mine s
         pub kind-after : (r : Growth) → k < 256 → Candidates-walked survey alphabet g k γ cells₄ seen₄ list₃ 0 top list₄ out₁ written r out₄
             → After-kind survey g out k cells₄ seen₄ list₄ out₄ r
         kind-after (To m) low v = mine-next low v
-        kind-after Full low v = mine-full v
+        kind-after Stopped low v = mine-stopped v
 
   -- THE END: all kinds
   pub mine-ends : {out : List ℕ} {k : ℕ} {cells₁ seen₁ list₁ out₁ : List ℕ} {written : ℕ} → 256 ≤ k
@@ -206,3 +211,27 @@ module _ {survey labels rank alphabet : List ℕ} {g : Settings} (a : Can-mine s
         lists = w .lists;
         room = w .room;
       }
+
+-- THE TABLES OF AN ACCEPTED SURVEY AT HAND
+pub tables-ready :
+    {bs before labels rank alphabet : List ℕ} {n s l : ℕ} (checking : Bool) → Accepted-settings bs s l → Tables bs before
+    → Ranks (drawings-of bs) rank alphabet n → Bits-noted bs before rank n → Beside-sheets before labels
+    → Sheets-noted (cranes-of bs) (sheets-of labels)
+    → Can-mine bs labels rank alphabet (record { labels = n; threshold = s; limit = l; checking = checking })
+tables-ready {bs} {rank = rank} {n = n} checking a t o b beside noted =
+    let most = accepted-survey bs (a .drawings) .most in
+    record {
+      set-up = record {
+        prepared = record {
+          accepted = a .drawings;
+          tables = tables-beside bs most beside t;
+          ranks = o;
+          bits = bits-beside bs most beside rank n b;
+          sheets = sheets-counted bs (a .drawings) noted;
+        };
+        one = a .threshold-low;
+        most = a .threshold-high;
+        small = a .limit-high;
+      };
+      some = a .limit-low;
+    }

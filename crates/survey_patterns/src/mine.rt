@@ -16,12 +16,13 @@ use records::code::Code;
 use surveys::labels::TABLES;
 ghost use mathlib.Core.Path.{_≡_};
 ghost use lib.ListN.{length};
+ghost use Rattle.growth.specs.Page.{page};
 ghost use Rattle.growth.specs.Sizes.{candidates-size};
 ghost use Rattle.walks.specs.Counts.{Blank};
 ghost use Rattle.walks.specs.EmbeddingLists.{Lists-sized};
 ghost use Rattle.survey_patterns.specs.SurveyMined.{Can-mine, Mined, Can-mine-kind, Kind-mined};
 
-// Writes an entry for every pattern whose device 0 has this kind, behind those that are written. The code grows in place in two
+// Lists an entry for every pattern whose device 0 has this kind, behind those that are listed. The code grows in place in two
 // arrays.
 fn mine_kind(
     survey: &[u8],
@@ -35,14 +36,16 @@ fn mine_kind(
     list: &mut [u64; CANDIDATES],
     kept: &mut [u8; KEPT],
     ends: &mut [usize; ENDS],
+    given: &[u8],
     output: &mut [u8],
     written: usize,
 ) -> Growth
     requires { ⌜ Can-mine-kind (now survey) (now labels) (now rank) (now alphabet) settings kind
-        (now cells) (now seen) (now list) (now kept) (now ends) (now output) written ⌝ }
+        (now cells) (now seen) (now list) (now kept) (now ends)
+        (page (settings .checking) (now given) (now output)) written ⌝ }
     ensures { λ r. ⌜ Kind-mined (now (survey .entry)) settings kind (now (cells .entry)) (now (seen .entry)) (now (list .entry))
-        (now (output .entry)) written r (now (cells .exit)) (now (seen .exit)) (now (list .exit)) (now (kept .exit))
-        (now (ends .exit)) (now (output .exit)) ⌝ }
+        (page (settings .checking) (now (given .entry)) (now (output .entry))) written r (now (cells .exit)) (now (seen .exit))
+        (now (list .exit)) (now (kept .exit)) (now (ends .exit)) (page (settings .checking) (now (given .entry)) (now (output .exit))) ⌝ }
 {
     let found = count_firsts(survey, labels, rank, settings.labels, kind, cells, seen);
     let top = choose(labels, cells, seen, found, settings.threshold, list, 0);
@@ -67,12 +70,13 @@ fn mine_kind(
         true,
         kept,
         ends,
+        given,
         output,
         written,
     )
 }
 
-// Writes an entry for every pattern that drawings of enough cranes contain, kind by kind.
+// Lists an entry for every pattern that drawings of enough cranes contain, kind by kind.
 pub fn mine(
     survey: &[u8],
     labels: &[u32; TABLES],
@@ -84,11 +88,13 @@ pub fn mine(
     list: &mut [u64; CANDIDATES],
     kept: &mut [u8; KEPT],
     ends: &mut [usize; ENDS],
+    given: &[u8],
     output: &mut [u8],
 ) -> Growth
     requires { ⌜ Can-mine (now survey) (now labels) (now rank) (now alphabet) settings
         × Blank (now cells) (now seen) × (length (now list) ≡ candidates-size) × Lists-sized (now kept) (now ends) ⌝ }
-    ensures { λ r. ⌜ Mined (now (survey .entry)) settings (now (output .entry)) r (now (output .exit)) ⌝ }
+    ensures { λ r. ⌜ Mined (now (survey .entry)) settings (page (settings .checking) (now (given .entry)) (now (output .entry))) r
+        (page (settings .checking) (now (given .entry)) (now (output .exit))) ⌝ }
 {
     let mut written = 0;
     let occurs = kinds_of(survey);
@@ -106,10 +112,11 @@ pub fn mine(
                 list,
                 kept,
                 ends,
+                given,
                 output,
                 written,
             ) else {
-                return Growth::Full;
+                return Growth::Stopped;
             };
             written = count;
         }

@@ -1,4 +1,4 @@
--- Taking a candidate up: what it asks, and what becomes of it. Assumes nothing: these are definitions.
+-- Taking a candidate up: what it asks, and what becomes of it. `out` is the page on which entries stand. Assumes nothing: these are definitions.
 use mathlib.Core.Path.{_≡_}
 use mathlib.Core.Bool.{Bool, true, false}
 use mathlib.Core.List.{List}
@@ -9,9 +9,10 @@ use Rattle.laws.specs.PutRecords.{put-record}
 use Rattle.codes.specs.Code.{Rec, recs-in, decoded, Least}
 use Rattle.codes.specs.OwnNumbering.{Well-grown}
 use Rattle.growth.specs.Catalogue.{entry, entry-bytes}
+use Rattle.growth.specs.Page.{Not-there}
 use Rattle.least_seen.specs.Accepting.{Accepted-front}
 use Rattle.taking.specs.declared.take.Taken.{Taken}
-use Rattle.taking.specs.declared.take.Taken.the-variants.{Passed, Full, Written}
+use Rattle.taking.specs.declared.take.Taken.the-variants.{Passed, Stopped, Listed}
 
 -- A CANDIDATE IS TAKEN UP: an accepted code of at most 8 records that grew well, and room for the entries before its own
 pub record Can-take-candidate (code : List ℕ) (m n cell : ℕ) (out : List ℕ) (count : ℕ) : Type 0 where
@@ -21,52 +22,54 @@ pub record Can-take-candidate (code : List ℕ) (m n cell : ℕ) (out : List ℕ
   pub few : cell / (2 ^ 32) ≤ 32
   pub out-room : 42 * count ≤ length out
 
--- its code is the least, and its entry, with as many drawings as its cell counts, stands in the output
+-- its code is the least, and its entry, with as many cranes as its cell counts, stands behind the others
 pub record Entry-put (γ : List Rec) (cell count : ℕ) (out out-now : List ℕ) : Type 0 where
   pub least : Least (decoded γ) γ
   pub room : 42 * count + 42 ≤ length out
   pub low : count + 1 < 2 ^ 64
   pub is : out-now ≡ put-record 42 count (entry-bytes (entry (cell / (2 ^ 32)) γ)) out
 
-pub record No-room (γ : List Rec) (count : ℕ) (out out-now : List ℕ) : Type 0 where
+-- or it cannot
+pub record No-entry (checking : Bool) (γ : List Rec) (cell count : ℕ) (out out-now : List ℕ) : Type 0 where
   pub least : Least (decoded γ) γ
-  pub short : length out < 42 * count + 42
+  pub back : Not-there checking (entry-bytes (entry (cell / (2 ^ 32)) γ)) count out
   pub same : out-now ≡ out
 
 pub record Not-least (γ : List Rec) (out out-now : List ℕ) : Type 0 where
   pub not-least : Least (decoded γ) γ → ⊥
   pub same : out-now ≡ out
 
-abbrev pub Candidate-taken : (γ : List Rec) (cell count : ℕ) → (out : List ℕ) → Taken → (out-now : List ℕ) → Type 0
-Candidate-taken γ cell count out Passed z = Not-least γ out z
-Candidate-taken γ cell count out Full z = No-room γ count out z
-Candidate-taken γ cell count out Written z = Entry-put γ cell count out z
+abbrev pub Candidate-taken : (checking : Bool) (γ : List Rec) (cell count : ℕ) → (out : List ℕ) → Taken → (out-now : List ℕ) → Type 0
+Candidate-taken checking γ cell count out Passed z = Not-least γ out z
+Candidate-taken checking γ cell count out Stopped z = No-entry checking γ cell count out z
+Candidate-taken checking γ cell count out Listed z = Entry-put γ cell count out z
 
--- THAT WAS ALL, unless its entry is written and it is smaller than the limit
+-- THAT WAS ALL, unless its entry is listed and it is smaller than the limit
 abbrev pub over-of : (size limit : ℕ) → Taken → Bool
 over-of size limit Passed = true
-over-of size limit Full = true
-over-of size limit Written = eqb size limit
+over-of size limit Stopped = true
+over-of size limit Listed = eqb size limit
 
-abbrev pub full-of : Taken → Bool
-full-of Passed = false
-full-of Full = true
-full-of Written = false
+abbrev pub stopped-of : Taken → Bool
+stopped-of Passed = false
+stopped-of Stopped = true
+stopped-of Listed = false
 
--- how many entries stand in the output then
+-- how many entries stand there then
 abbrev pub count-of : (count : ℕ) → Taken → ℕ
 count-of count Passed = count
-count-of count Full = count
-count-of count Written = count + 1
+count-of count Stopped = count
+count-of count Listed = count + 1
 
-pub record Taken-on (γ : List Rec) (cell limit count : ℕ) (out : List ℕ) (over full : Bool) (more : ℕ) (out-now : List ℕ) : Type 0 where
+pub record Taken-on
+    (checking : Bool) (γ : List Rec) (cell limit count : ℕ) (out : List ℕ) (over stopped : Bool) (more : ℕ) (out-now : List ℕ) : Type 0 where
   pub taken : Taken
-  pub told : Candidate-taken γ cell count out taken out-now
+  pub told : Candidate-taken checking γ cell count out taken out-now
   pub over-is : over ≡ over-of (length γ) limit taken
-  pub full-is : full ≡ full-of taken
+  pub stopped-is : stopped ≡ stopped-of taken
   pub count-is : more ≡ count-of count taken
 
--- its entry is written, and it is smaller
+-- its entry is listed, and it is smaller
 pub record Entry-goes-on (γ : List Rec) (cell limit count : ℕ) (out : List ℕ) (more : ℕ) (out-now : List ℕ) : Type 0 where
   pub put : Entry-put γ cell count out out-now
   pub smaller : length γ ≡ limit → ⊥

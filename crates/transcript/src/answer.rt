@@ -1,5 +1,6 @@
 // What a call answered, as numbers: a refusal's is the paper's.
 use records::catalogued::Catalogued;
+use records::list_checked::ListChecked;
 use records::refusal::Checked;
 use records::refusal::Refusal;
 use records::refusal::number;
@@ -39,5 +40,14 @@ pub fn catalogued(answer: Catalogued) -> Answer {
     match answer {
         Catalogued::Entries(n) => Answer(0, 0, n),
         Catalogued::Refused(reason, drawing) => refused(reason, drawing),
+    }
+}
+
+// Yes is 1, as the C interface has it.
+pub fn list_checked(answer: ListChecked) -> Answer {
+    match answer {
+        ListChecked::No => Answer(0, 0, 0),
+        ListChecked::Yes => Answer(0, 0, 1),
+        ListChecked::Refused(reason, drawing) => refused(reason, drawing),
     }
 }

@@ -16,7 +16,7 @@ pub const SAME: u32 = 6;
 // The reader: a survey is opened once, and then fetched from.
 pub const FETCH: u32 = 7;
 
-// The calls that are lent output; lists come last.
+// The calls that are lent output; those that write a list come last.
 pub const CODE_DRAWING: u32 = 8;
 
 pub const DECODE: u32 = 9;
@@ -28,3 +28,8 @@ pub const WRITE_CATALOGUE: u32 = 11;
 pub const USUAL_CATALOGUE: u32 = 12;
 
 pub const BOOK: u32 = 13;
+
+// The calls that check a list, and are lent no output either.
+pub const CHECK_LIST: u32 = 14;
+
+pub const CHECK_USUAL: u32 = 15;

@@ -4,11 +4,13 @@ mod list; // list.rt: the list of calls
 
 use crate::list::run_all;
 
-// The list has two pages, and the first is full.
+// The list has three pages, and all but the last are full.
 fn main() {
     let mut page = io::large_buffer();
     let n = io::read_full(0, &mut page);
     run_all(&page[..n]);
     let m = io::read_full(0, &mut page);
     run_all(&page[..m]);
+    let k = io::read_full(0, &mut page);
+    run_all(&page[..k]);
 }

@@ -2,6 +2,7 @@
 use crate::catalogue::{self, Entry};
 use crate::code;
 use crate::drawing::{Drawing, RECORD};
+use crate::lists;
 use crate::map;
 use crate::refused::Refused;
 use std::cmp::Ordering;
@@ -156,6 +157,16 @@ pub fn catalogue(entries: &Result<Vec<Entry>, Refused>, lent: &[u8]) -> Answer {
             let bytes = catalogue::bytes(entries);
             Answer::written("entries", entries.len(), &bytes, lent)
         }
+    }
+}
+
+/// Whether a list is the catalogue of these entries. Its length is looked at once the survey is accepted; its bytes are no reason to refuse.
+pub fn check_list(entries: &Result<Vec<Entry>, Refused>, list: &[u8]) -> Answer {
+    match entries {
+        Err(refused) => Answer::refused(*refused, of_survey(refused), &[]),
+        Ok(_) if list.len() % catalogue::ENTRY != 0 => Answer::refused(Refused::of(18), FIRST, &[]),
+        Ok(entries) if lists::is_right(list, entries) => Answer::counted("yes", 1),
+        Ok(_) => Answer::counted("no", 0),
     }
 }
 

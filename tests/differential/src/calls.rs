@@ -4,9 +4,10 @@
 use holvreiz::raw;
 use holvreiz_differential::answers::{self, Answer};
 use holvreiz_differential::book;
-use holvreiz_differential::catalogue::{each_its_crane, Codes, Entry, ENTRY};
+use holvreiz_differential::catalogue::{self, each_its_crane, Codes, Entry, ENTRY};
 use holvreiz_differential::cranes;
 use holvreiz_differential::drawing::Drawing;
+use holvreiz_differential::lists;
 use holvreiz_differential::lone;
 use holvreiz_differential::random::Random;
 use holvreiz_differential::refused::Refused;
@@ -14,6 +15,9 @@ use holvreiz_differential::shims::{Came, Given, SHIMS};
 use std::collections::{BTreeMap, BTreeSet};
 
 const GUARD: usize = 24;
+
+/// The usual threshold and size limit.
+pub const USUAL: [u32; 2] = [2, 4];
 
 pub fn refused(number: u8, whose: &str) -> String {
     format!("refused {number:2}{whose}")
@@ -42,11 +46,13 @@ fn returned(answer: &Answer) -> u64 {
 /// How often each call had each outcome.
 pub type Seen = BTreeMap<(&'static str, String), usize>;
 
-/// What was seen, of each call by itself and of the cranes beside it, and where the lent bytes come from.
+/// What was seen, of each call by itself and of the cranes or the list beside it, and where the lent bytes come from.
 pub struct Calls {
     seen: Seen,
     beside_cranes: Seen,
+    beside_lists: Seen,
     found: BTreeSet<usize>,
+    written_checked: usize,
     random: Random,
     codes: Codes,
 }
@@ -64,7 +70,9 @@ impl Calls {
         Calls {
             seen: BTreeMap::new(),
             beside_cranes: BTreeMap::new(),
+            beside_lists: BTreeMap::new(),
             found: BTreeSet::new(),
+            written_checked: 0,
             random: Random::new(seed),
             codes: Codes::default(),
         }
@@ -78,20 +86,29 @@ impl Calls {
         &self.beside_cranes
     }
 
+    pub fn seen_beside_lists(&self) -> &Seen {
+        &self.beside_lists
+    }
+
+    /// How often the check was given what the library had written.
+    pub fn written_checked(&self) -> usize {
+        self.written_checked
+    }
+
     /// The shims that no call has found out.
     pub fn unnoticed(&self) -> Vec<(&'static str, &'static str)> {
         let left = (0..SHIMS.len()).filter(|shim| !self.found.contains(shim));
         left.map(|shim| (SHIMS[shim].0, SHIMS[shim].1)).collect()
     }
 
-    /// Calls with a lent output of random bytes between guards, and compares everything.
+    /// Calls with a lent output of random bytes between guards, and compares everything. Gives the answer.
     fn hold(
         &mut self,
         given: Given,
         room: usize,
         expect: impl FnOnce(&[u8]) -> Answer,
         run: impl FnOnce(&mut [u8]) -> u64,
-    ) {
+    ) -> Answer {
         let Given {
             call,
             first,
@@ -120,6 +137,7 @@ impl Calls {
             let outcome = said(&expected) + told;
             *self.beside_cranes.entry((call, outcome)).or_default() += 1;
         }
+        expected
     }
 
     /// Each shim of this call that is not found out yet, on a copy of what came back. The lent bytes are given as they are and were.
@@ -249,6 +267,77 @@ impl Calls {
         self.hold(given, room, expect, |output| {
             raw::catalogue(survey, threshold, limit, output)
         });
+        if let Ok(frequent) = entries {
+            self.hold_written(survey, settings, frequent.len());
+        }
+    }
+
+    /// What the library writes as a catalogue its check says yes to.
+    fn hold_written(&mut self, survey: &[u8], settings: [u32; 2], entries: usize) {
+        let [threshold, limit] = settings;
+        let mut written = vec![0; entries * ENTRY];
+        let returned = raw::catalogue(survey, threshold, limit, &mut written);
+        assert_eq!(returned, entries as u64);
+        assert_eq!(raw::check_list(survey, threshold, limit, &written), 1);
+        self.written_checked += 1;
+        if settings == USUAL {
+            assert_eq!(raw::check_usual(survey, &written), 1);
+            self.written_checked += 1;
+        }
+    }
+
+    /// The check of each list that `lists` makes of the right one, which is empty where the survey is refused; at the usual settings by the
+    /// shorter call too.
+    pub fn check_lists(
+        &mut self,
+        survey: &[u8],
+        settings: [u32; 2],
+        lists: impl FnOnce(&[u8]) -> Vec<Vec<u8>>,
+    ) {
+        let [threshold, limit] = settings;
+        let entries = self.codes.of_survey(survey, threshold, limit);
+        let right = entries.as_ref().map(|entries| catalogue::bytes(entries));
+        let calls: &[_] = match settings {
+            USUAL => &["check_list", "check_usual"],
+            _ => &["check_list"],
+        };
+        for list in lists(right.as_deref().unwrap_or(&[])) {
+            for call in calls {
+                let answer = self.hold_check(call, survey, settings, &entries, &list);
+                if let Ok(right) = &right {
+                    let outcome = said(&answer) + lists::told(&list, right);
+                    *self.beside_lists.entry((call, outcome)).or_default() += 1;
+                }
+            }
+        }
+    }
+
+    fn hold_check(
+        &mut self,
+        call: &'static str,
+        survey: &[u8],
+        settings: [u32; 2],
+        entries: &Result<Vec<Entry>, Refused>,
+        list: &[u8],
+    ) -> Answer {
+        let given = Given {
+            call,
+            first: survey,
+            second: list,
+            settings: &settings,
+        };
+        let expect = |_: &[u8]| answers::check_list(entries, list);
+        let [threshold, limit] = settings;
+        self.hold(given, 0, expect, |_| match call {
+            "check_usual" => raw::check_usual(survey, list),
+            _ => raw::check_list(survey, threshold, limit, list),
+        })
+    }
+
+    /// The catalogue of a survey as a list, if it has one.
+    pub fn list_of(&mut self, survey: &[u8], settings: [u32; 2]) -> Option<Vec<u8>> {
+        let entries = self.codes.of_survey(survey, settings[0], settings[1]);
+        Some(catalogue::bytes(&entries.ok()?))
     }
 
     /// The book, once for each of so many bytes lent as `rooms` makes of those that the entries need.

@@ -40,8 +40,8 @@ pub fn told(given: &Given, lent: &[u8], answer: &Answer) -> Vec<&'static str> {
         ("decode", 0) if lent[CRANE_AT] != 0 => vec![OVERWRITTEN],
         ("decode", 15) if lent.len() == CRANE_AT => vec![SHORT_OF_CRANE],
         ("check_survey" | "open" | "fetch", 0) => of_survey(first, 1),
-        ("catalogue" | "write_catalogue", 0) => of_survey(first, given.settings[0]),
-        ("usual_catalogue", 0) => of_survey(first, 2),
+        ("catalogue" | "write_catalogue" | "check_list", 0) => of_survey(first, given.settings[0]),
+        ("usual_catalogue" | "check_usual", 0) => of_survey(first, 2),
         (_, 1) if !at_fault.is_empty() && at_fault.len() % OLD_RECORD == 0 => vec![OLD],
         _ => Vec::new(),
     }

@@ -7,6 +7,7 @@ pub mod code;
 pub mod cranes;
 pub mod drawing;
 pub mod generate;
+pub mod lists;
 pub mod lone;
 pub mod map;
 pub mod pairs;

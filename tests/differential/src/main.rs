@@ -5,13 +5,14 @@
 //! languages call it, and it reads the paper a second time.
 mod calls;
 
-use calls::{refused, Calls, Seen};
+use calls::{refused, Calls, Seen, USUAL};
 use holvreiz_differential::answers::{FIRST, LATER, SECOND};
 use holvreiz_differential::catalogue::{each_its_crane, ENTRY};
 use holvreiz_differential::code;
 use holvreiz_differential::cranes;
 use holvreiz_differential::drawing::{self, Drawing, RECORD};
 use holvreiz_differential::generate::{self, sheet, Shape};
+use holvreiz_differential::lists;
 use holvreiz_differential::lone;
 use holvreiz_differential::pairs;
 use holvreiz_differential::random::Random;
@@ -291,7 +292,7 @@ mod surveys {
     }
 
     /// Drawings that have much in common, neighbours of a few, and some lone devices, in any order.
-    fn survey(random: &mut Random, drawings: usize, shape: Shape) -> Vec<Drawing> {
+    pub fn survey(random: &mut Random, drawings: usize, shape: Shape) -> Vec<Drawing> {
         let mut survey = vec![generate::drawing(random, shape)];
         while survey.len() < drawings {
             let last = &survey[random.below(survey.len())];
@@ -370,7 +371,7 @@ mod surveys {
     }
 
     /// Drawings that have much in common, as sheets of these cranes.
-    fn of_cranes(random: &mut Random, cranes: &[u8]) -> Vec<u8> {
+    pub fn of_cranes(random: &mut Random, cranes: &[u8]) -> Vec<u8> {
         let drawings = survey(random, cranes.len(), SMALL);
         let sheets = drawings.iter().zip(cranes);
         sheets.flat_map(|(d, &crane)| d.sheet(crane)).collect()
@@ -411,7 +412,7 @@ mod surveys {
     }
 
     /// A drawing's record, now and then with faults, but of the right length.
-    fn record(random: &mut Random) -> Vec<u8> {
+    pub fn record(random: &mut Random) -> Vec<u8> {
         let drawing = small(random);
         let mut record = match random.below(12) {
             0 => generate::damaged_record(random, &drawing),
@@ -420,6 +421,128 @@ mod surveys {
         };
         record.resize(RECORD, 0);
         record
+    }
+}
+
+mod checks {
+    use super::*;
+
+    /// No survey has more entries.
+    const MOST_ENTRIES: usize = 8_446_368;
+
+    /// Surveys that are accepted, with the right list and with lists that are wrong in every way; then for the usual settings.
+    pub fn accepted(
+        calls: &mut Calls,
+        random: &mut Random,
+        times: usize,
+        shape: Shape,
+        most_drawings: usize,
+    ) {
+        for _ in 0..times {
+            let drawings = random.between(1, most_drawings);
+            let survey = surveys::survey(random, drawings, shape);
+            let survey = generate::survey(random, &survey);
+            let threshold = random.between(1, drawings + 1).min(32) as u32;
+            let limit = random.between(1, 8) as u32;
+            for settings in [[threshold, limit], USUAL] {
+                calls.check_lists(&survey, settings, |right| lists::spoiled(random, right));
+            }
+        }
+    }
+
+    /// Drawings whose cranes repeat: the right list, and the one of the same drawings with each its own crane.
+    pub fn repeated_cranes(calls: &mut Calls, random: &mut Random) {
+        for cranes in [
+            &[3, 9, 3][..],
+            &[9, 3, 3],
+            &[0, 5, 0, 5],
+            &[0, 255, 255, 0, 255],
+            &[200, 0, 199, 200, 198, 0, 197],
+            &[7, 7, 7],
+            &[7; 32],
+        ] {
+            let survey = surveys::of_cranes(random, cranes);
+            let sheets = survey.chunks(RECORD).zip(0..);
+            let own: Vec<u8> = sheets
+                .flat_map(|(d, crane)| [&d[..RECORD - 1], &[crane]].concat())
+                .collect();
+            for settings in [[1, 3], USUAL, [3, 4]] {
+                let by_drawings = calls.list_of(&own, settings).expect("accepted");
+                calls.check_lists(&survey, settings, |right| vec![right.to_vec(), by_drawings]);
+            }
+        }
+    }
+
+    /// The lists of other settings, of the survey without its last drawing, and of another survey: some of them are equal.
+    pub fn of_others(calls: &mut Calls, random: &mut Random, times: usize) {
+        for _ in 0..times {
+            let drawings = random.between(2, 8);
+            let [survey, other] = [0, 1].map(|_| {
+                let survey = surveys::survey(random, drawings, SMALL);
+                generate::survey(random, &survey)
+            });
+            for [s, limit] in [USUAL, [random.between(1, 4) as u32, 3]] {
+                let lists = [
+                    calls.list_of(&survey, [s + 1, limit]),
+                    calls.list_of(&survey, [s - 1, limit]),
+                    calls.list_of(&survey, [s, limit + 1]),
+                    calls.list_of(&survey, [s, limit - 1]),
+                    calls.list_of(&survey[..(drawings - 1) * RECORD], [s, limit]),
+                    calls.list_of(&other, [s, limit]),
+                ];
+                let lists = lists.into_iter().flatten().collect();
+                calls.check_lists(&survey, [s, limit], |_| lists);
+            }
+        }
+    }
+
+    /// Settings out of range, lengths out of range and drawings with faults, beside lists of any length.
+    pub fn damaged(calls: &mut Calls, random: &mut Random, times: usize) {
+        for _ in 0..times {
+            let drawings = *random.pick(&[0, 1, 2, 3, 32, 33]);
+            let mut survey: Vec<u8> = (0..drawings)
+                .flat_map(|_| surveys::record(random))
+                .collect();
+            match random.below(10) {
+                0 => survey.push(0),
+                1 => survey.truncate(drawings * cranes::OLD_RECORD),
+                _ => {}
+            }
+            let threshold = *random.pick(&[0, 1, 2, 3, 32, 33, u32::MAX]);
+            let limit = *random.pick(&[0, 1, 2, 3, 9, u32::MAX]);
+            let settings = *random.pick(&[[threshold, limit], USUAL]);
+            let no_entry = random.between(1, ENTRY - 1);
+            let lists = vec![random.bytes(no_entry), Vec::new(), random.bytes(ENTRY)];
+            calls.check_lists(&survey, settings, |_| lists);
+        }
+    }
+
+    /// As many drawings as there may be, all alike; entries of eight cables; more entries than anyone reads, wrong in the last one alone; lists
+    /// longer than any catalogue, with the right one in front and for a survey in which nothing is frequent.
+    pub fn largest(calls: &mut Calls, random: &mut Random) {
+        let alike = vec![generate::drawing_of(random, 7, 8, 2); 32];
+        let alike = each_its_crane(&alike);
+        calls.check_lists(&alike, [32, 8], |right| lists::spoiled(random, right));
+
+        let many: Vec<Drawing> = (0..32)
+            .map(|_| generate::drawing_of(random, 10, 20, 16))
+            .collect();
+        calls.check_lists(&each_its_crane(&many), [1, 4], |right| {
+            assert!(20_000 * ENTRY < right.len());
+            let mut last = right.to_vec();
+            *last.last_mut().expect("an entry") ^= 1;
+            let (front, end) = right.split_at(right.len() - ENTRY);
+            vec![right.to_vec(), last, front.to_vec(), [right, end].concat()]
+        });
+
+        let longest = (MOST_ENTRIES + 1) * ENTRY;
+        for settings in [[1, 2], USUAL] {
+            calls.check_lists(&alike[..RECORD], settings, |right| {
+                let mut list = vec![0; longest];
+                list[..right.len()].copy_from_slice(right);
+                vec![list]
+            });
+        }
     }
 }
 
@@ -481,6 +604,9 @@ fn outcomes() -> Vec<(&'static str, String)> {
     answers("same", &["yes", "no"]);
     answers("catalogue", &["entries", "no entry"]);
     answers("book", &["entries"]);
+    for call in ["check_list", "check_usual"] {
+        answers(call, &["yes", "no"]);
+    }
 
     let mut refusals = |call: &'static str, numbers: &[u8], whose: &str| {
         outcomes.extend(numbers.iter().map(|&number| (call, refused(number, whose))));
@@ -504,6 +630,12 @@ fn outcomes() -> Vec<(&'static str, String)> {
     }
     refusals("book", &[16, 17], FIRST);
     refusals("book", OF_THE_OUTPUT, FIRST);
+    for call in ["check_list", "check_usual"] {
+        refusals(call, OF_A_DRAWING, FIRST);
+        refusals(call, &OF_A_DRAWING[1..], LATER);
+        refusals(call, &[14, 18], FIRST);
+    }
+    refusals("check_list", &[12, 13], FIRST);
     outcomes.extend(lone_outcomes());
     outcomes
 }
@@ -528,6 +660,10 @@ fn lone_outcomes() -> Vec<(&'static str, String)> {
     answers("same", &["no"], lone::SECOND_LONE);
     answers("catalogue", &["entries", "no entry"], lone::SOME_LONE);
     answers("catalogue", &["no entry"], lone::ALL_LONE);
+    for call in ["check_list", "check_usual"] {
+        answers(call, &["yes", "no"], lone::SOME_LONE);
+        answers(call, &["yes", "no"], lone::ALL_LONE);
+    }
 
     let mut refusals = |call: &'static str, number: u8, whose: &str, near: &str| {
         outcomes.push((call, refused(number, whose) + near));
@@ -540,6 +676,10 @@ fn lone_outcomes() -> Vec<(&'static str, String)> {
         ("same", SECOND),
         ("catalogue", FIRST),
         ("catalogue", LATER),
+        ("check_list", FIRST),
+        ("check_list", LATER),
+        ("check_usual", FIRST),
+        ("check_usual", LATER),
     ] {
         refusals(call, 3, whose, lone::CABLES);
         refusals(call, 3, whose, lone::NO_CABLE);
@@ -560,6 +700,10 @@ fn lone_outcomes() -> Vec<(&'static str, String)> {
         refusals(call, 15, FIRST, lone::LONE);
     }
     refusals("catalogue", 15, FIRST, lone::SOME_LONE);
+    for call in ["check_list", "check_usual"] {
+        refusals(call, 18, FIRST, lone::SOME_LONE);
+        refusals(call, 18, FIRST, lone::ALL_LONE);
+    }
     outcomes
 }
 
@@ -591,31 +735,56 @@ fn crane_outcomes() -> Vec<(&'static str, String)> {
     }
     answers("catalogue", &["entries", "no entry"], &of_a_survey);
     answers("catalogue", &["no entry"], &[cranes::TOO_FEW]);
-    for call in ["code", "catalogue"] {
+    for call in ["check_list", "check_usual"] {
+        answers(call, &["yes", "no"], &of_a_survey);
+        answers(call, &["yes", "no"], &[cranes::TOO_FEW]);
+    }
+    for call in ["code", "catalogue", "check_list", "check_usual"] {
         answers(call, &[&refused(1, FIRST)], &[cranes::OLD]);
     }
     outcomes
 }
 
-/// Prints how often each outcome occurred, and each beside cranes of which there is something to tell; the ones that did not occur often
-/// enough.
+/// What is answered beside lists of every kind.
+fn list_outcomes() -> Vec<(&'static str, String)> {
+    let mut outcomes = Vec::new();
+    for call in ["check_list", "check_usual"] {
+        for (said, told) in lists::ANSWERS {
+            outcomes.extend(told.iter().map(|near| (call, format!("{said}{near}"))));
+        }
+        let refused = |near: &&str| (call, refused(18, FIRST) + near);
+        outcomes.extend(lists::REFUSED.iter().map(refused));
+    }
+    outcomes
+}
+
+/// Prints how often each outcome occurred, and each beside cranes or a list of which there is something to tell; the ones that did not occur
+/// often enough.
 fn report(calls: &Calls) -> Vec<(&'static str, String)> {
     let mut total = 0;
     for ((call, outcome), times) in calls.seen() {
-        println!("{call:10} {outcome:46} {times:7}");
+        println!("{call:11} {outcome:46} {times:7}");
         total += times;
     }
     println!("of these beside cranes:");
     for ((call, outcome), times) in calls.seen_beside_cranes() {
-        println!("{call:10} {outcome:46} {times:7}");
+        println!("{call:11} {outcome:46} {times:7}");
+    }
+    println!("of these beside lists:");
+    for ((call, outcome), times) in calls.seen_beside_lists() {
+        println!("{call:11} {outcome:46} {times:7}");
     }
     println!("{total} calls, each as expected");
+    let written = calls.written_checked();
+    println!("{written} checks of what the library had written, each yes");
     let rare = |seen: &Seen, outcome: &_| seen.get(outcome).copied().unwrap_or(0) < TIMES;
     let outcomes = outcomes().into_iter();
     let beside_cranes = crane_outcomes().into_iter();
+    let beside_lists = list_outcomes().into_iter();
     outcomes
         .filter(|outcome| rare(calls.seen(), outcome))
         .chain(beside_cranes.filter(|outcome| rare(calls.seen_beside_cranes(), outcome)))
+        .chain(beside_lists.filter(|outcome| rare(calls.seen_beside_lists(), outcome)))
         .collect()
 }
 
@@ -645,6 +814,13 @@ fn run(calls: &mut Calls, seed: u64) {
     surveys::label_counts(calls, random);
     surveys::repeated_cranes(calls, random);
     surveys::old(calls, random, 100);
+    checks::accepted(calls, random, 100, SMALL, 8);
+    checks::accepted(calls, random, 40, PLAIN, 8);
+    checks::accepted(calls, random, 20, LONE, 8);
+    checks::repeated_cranes(calls, random);
+    checks::of_others(calls, random, 40);
+    checks::damaged(calls, random, 1500);
+    checks::largest(calls, random);
 }
 
 fn main() -> ExitCode {

@@ -7,8 +7,8 @@ use crate::code;
 use crate::cranes::{self, OLD_RECORD};
 use crate::drawing::{CRANE_AT, RECORD};
 
-/// A call with what it was given. Of two drawings or codes `first` is the first; `settings` are the threshold and the size limit of a
-/// catalogue, the kinds of devices, the kinds of cables and the size limit of a book.
+/// A call with what it was given. Of two drawings or codes `first` is the first, of a survey and a list the survey; `settings` are the threshold and
+/// the size limit of a catalogue, the kinds of devices, the kinds of cables and the size limit of a book.
 pub struct Given<'a> {
     pub call: &'static str,
     pub first: &'a [u8],
@@ -78,21 +78,41 @@ impl Came<'_> {
         let (true, &[threshold, limit]) = (self.answered(), given.settings) else {
             return;
         };
-        let sheets = catalogue::read_survey(given.first).expect("an accepted survey");
-        let cranes = cranes::of_drawings(given.first);
-        let containing = Codes::default().containing(&sheets, limit as usize);
-        let mut entries: Vec<Entry> = containing
-            .into_iter()
-            .filter(|(_, drawings)| held(drawings, &cranes) >= threshold as usize)
-            .map(|(code, drawings)| Entry {
-                code,
-                support: written(&drawings, &cranes),
-            })
-            .collect();
-        entries.sort_by(|a, b| code::order(&a.code, &b.code));
-        let bytes = catalogue::bytes(&entries);
+        let bytes = counted(given.first, threshold, limit, held, written);
         let entries: Vec<Vec<u8>> = bytes.chunks(42).map(<[u8]>::to_vec).collect();
         self.list(&entries);
+    }
+
+    /// Answers whether a list is right.
+    fn say(&mut self, right: bool) {
+        if self.answered() {
+            *self.returned = u64::from(right);
+        }
+    }
+
+    /// Says yes to a list that is wrong, where it and the right one are such.
+    fn say_yes(&mut self, given: &Given, wanted: impl Fn(&[u8], &[u8]) -> bool) {
+        if self.answered() && self.count() == 0 {
+            let &[threshold, limit] = given.settings else {
+                return;
+            };
+            self.say(wanted(given.second, &right(given.first, threshold, limit)));
+        }
+    }
+
+    /// Answers for other settings, if there is an answer.
+    fn say_for(&mut self, given: &Given, threshold: u32, limit: u32) {
+        let entries = Codes::default().of_survey(given.first, threshold, limit);
+        if entries.is_ok() {
+            self.say(answers::check_list(&entries, given.second).count == 1);
+        }
+    }
+
+    /// Refuses the length of a list where something else is refused by one of these numbers.
+    fn refuse_length_first(&mut self, given: &Given, numbers: &[u8]) {
+        if numbers.contains(&self.refusal()) && given.second.len() % 42 != 0 {
+            self.refuse(18, 0);
+        }
     }
 
     /// Refuses what was answered.
@@ -129,6 +149,51 @@ impl Came<'_> {
 }
 
 type Spoil = fn(&Given, &mut Came);
+
+/// The bytes of the catalogue that other counts give an accepted survey.
+fn counted(survey: &[u8], threshold: u32, limit: u32, held: Count, written: Count) -> Vec<u8> {
+    let sheets = catalogue::read_survey(survey).expect("an accepted survey");
+    let cranes = cranes::of_drawings(survey);
+    let containing = Codes::default().containing(&sheets, limit as usize);
+    let mut entries: Vec<Entry> = containing
+        .into_iter()
+        .filter(|(_, drawings)| held(drawings, &cranes) >= threshold as usize)
+        .map(|(code, drawings)| Entry {
+            code,
+            support: written(&drawings, &cranes),
+        })
+        .collect();
+    entries.sort_by(|a, b| code::order(&a.code, &b.code));
+    catalogue::bytes(&entries)
+}
+
+/// The list that is right for an accepted survey.
+fn right(survey: &[u8], threshold: u32, limit: u32) -> Vec<u8> {
+    counted(survey, threshold, limit, different, different)
+}
+
+/// Whether two lists have as many entries, and those are equal by what is looked at of each.
+fn alike<T: PartialEq>(one: &[u8], other: &[u8], looked_at: impl Fn(&[u8]) -> T) -> bool {
+    let pairs = one.chunks(42).zip(other.chunks(42));
+    one.len() == other.len() && pairs.into_iter().all(|(a, b)| looked_at(a) == looked_at(b))
+}
+
+/// An entry without its support.
+fn unsupported(entry: &[u8]) -> Vec<u8> {
+    [&entry[..1], &entry[2..]].concat()
+}
+
+/// The entries of a list, sorted as bytes.
+fn sorted(list: &[u8]) -> Vec<&[u8]> {
+    let mut entries: Vec<&[u8]> = list.chunks(42).collect();
+    entries.sort();
+    entries
+}
+
+/// Its first bytes, those of the whole entries.
+fn whole_entries(list: &[u8]) -> &[u8] {
+    &list[..list.len() - list.len() % 42]
+}
 
 /// A count of the drawings that contain a pattern, in a survey of these cranes.
 type Count = fn(&[usize], &[u8]) -> usize;
@@ -801,4 +866,293 @@ pub const SHIMS: &[(&str, &str, Spoil)] = &[
             came.output.copy_from_slice(came.lent);
         }
     }),
+    (
+        "check_list",
+        "yes to a list that ends early",
+        |given, came| {
+            came.say_yes(given, |list, right| {
+                !list.is_empty() && right.starts_with(list)
+            })
+        },
+    ),
+    ("check_list", "yes to a list with gaps", |given, came| {
+        came.say_yes(given, |list, right| {
+            list.chunks(42)
+                .all(|entry| right.chunks(42).any(|other| other == entry))
+        })
+    }),
+    (
+        "check_list",
+        "yes to a list without entries",
+        |given, came| came.say_yes(given, |list, _| list.is_empty()),
+    ),
+    (
+        "check_list",
+        "no to a list without entries",
+        |given, came| {
+            if given.second.is_empty() {
+                came.say(false);
+            }
+        },
+    ),
+    ("check_list", "yes to a list that goes on", |given, came| {
+        came.say_yes(given, |list, right| list.starts_with(right))
+    }),
+    (
+        "check_list",
+        "yes to zeros behind the entries",
+        |given, came| {
+            came.say_yes(given, |list, right| {
+                let behind = list.strip_prefix(right);
+                behind.is_some_and(|behind| behind.iter().all(|&byte| byte == 0))
+            })
+        },
+    ),
+    (
+        "check_list",
+        "yes to the last entry twice",
+        |given, came| {
+            came.say_yes(given, |list, right| {
+                let behind = list.strip_prefix(right);
+                behind.is_some_and(|behind| behind.len() == 42 && right.ends_with(behind))
+            })
+        },
+    ),
+    ("check_list", "yes with a wrong support", |given, came| {
+        came.say_yes(given, |list, right| alike(list, right, unsupported))
+    }),
+    ("check_list", "yes with a greater support", |given, came| {
+        came.say_yes(given, |list, right| {
+            let mut pairs = list.chunks(42).zip(right.chunks(42));
+            alike(list, right, unsupported) && pairs.all(|(a, b)| a[1] >= b[1])
+        })
+    }),
+    ("check_list", "yes in any order", |given, came| {
+        came.say_yes(given, |list, right| sorted(list) == sorted(right))
+    }),
+    (
+        "check_list",
+        "yes whatever stands behind an entry's records",
+        |given, came| {
+            came.say_yes(given, |list, right| {
+                let front = |entry: &[u8]| {
+                    let end = 2 + 5 * usize::from(entry[0]);
+                    entry.get(..end).map(<[u8]>::to_vec)
+                };
+                alike(list, right, front)
+            })
+        },
+    ),
+    (
+        "check_list",
+        "an entry's last byte not compared",
+        |given, came| {
+            came.say_yes(given, |list, right| {
+                alike(list, right, |entry| entry[..41].to_vec())
+            })
+        },
+    ),
+    (
+        "check_list",
+        "an entry's first byte not compared",
+        |given, came| {
+            came.say_yes(given, |list, right| {
+                alike(list, right, |entry| entry[1..].to_vec())
+            })
+        },
+    ),
+    ("check_list", "codes not compared", |given, came| {
+        came.say_yes(given, |list, right| {
+            alike(list, right, |entry| [entry[0], entry[1]])
+        })
+    }),
+    (
+        "check_list",
+        "the last entry not compared",
+        |given, came| {
+            came.say_yes(given, |list, right| {
+                let front = right.len().saturating_sub(42);
+                list.len() == right.len() && list[..front] == right[..front]
+            })
+        },
+    ),
+    (
+        "check_list",
+        "yes where the number of entries is right",
+        |given, came| came.say_yes(given, |list, right| list.len() == right.len()),
+    ),
+    (
+        "check_list",
+        "nothing compared behind 20,000 entries",
+        |given, came| {
+            if given.second.len() > 42 * 20_000 {
+                came.say_yes(given, |list, right| {
+                    list.len() == right.len() && list[..42 * 20_000] == right[..42 * 20_000]
+                });
+            }
+        },
+    ),
+    ("check_list", "yes always", |_, came| came.say(true)),
+    ("check_list", "no always", |_, came| came.say(false)),
+    ("check_list", "no beside lone devices", |given, came| {
+        if given.first.chunks(RECORD).any(|d| devices(d) == 1) {
+            came.say(false);
+        }
+    }),
+    ("check_list", "no to supports of 32", |given, came| {
+        if given
+            .second
+            .chunks(42)
+            .any(|entry| entry.get(1) == Some(&32))
+        {
+            came.say(false);
+        }
+    }),
+    ("check_list", "a threshold of one less", |given, came| {
+        came.say_for(given, given.settings[0].wrapping_sub(1), given.settings[1])
+    }),
+    ("check_list", "a size limit of one less", |given, came| {
+        came.say_for(given, given.settings[0], given.settings[1].wrapping_sub(1))
+    }),
+    ("check_list", "the usual settings for any", |given, came| {
+        came.say_for(given, 2, 4)
+    }),
+    (
+        "check_list",
+        "drawings counted instead of cranes",
+        |given, came| {
+            if let (true, &[threshold, limit]) = (came.answered(), given.settings) {
+                let list = counted(given.first, threshold, limit, drawings, drawings);
+                came.say(given.second == list);
+            }
+        },
+    ),
+    ("check_list", "18 told as no", |_, came| {
+        if came.refusal() == 18 {
+            *came.returned = 0;
+        }
+    }),
+    ("check_list", "18 told of drawing 1", |_, came| {
+        if came.refusal() == 18 {
+            came.refuse(18, 1);
+        }
+    }),
+    (
+        "check_list",
+        "the bytes behind whole entries passed over",
+        |given, came| {
+            if let (18, &[threshold, limit]) = (came.refusal(), given.settings) {
+                let right = right(given.first, threshold, limit);
+                *came.returned = u64::from(whole_entries(given.second) == right);
+            }
+        },
+    ),
+    (
+        "check_list",
+        "18 for a list without entries",
+        |given, came| {
+            if came.answered() && given.second.is_empty() {
+                came.refuse(18, 0);
+            }
+        },
+    ),
+    ("check_list", "18 for what is no entry", |given, came| {
+        let is_entry = |entry: &[u8]| (1..=8).contains(&entry[0]);
+        if came.answered() && !given.second.chunks(42).all(is_entry) {
+            came.refuse(18, 0);
+        }
+    }),
+    (
+        "check_list",
+        "18 for a list longer than any catalogue",
+        |given, came| {
+            if came.answered() && given.second.len() > 42 * 8_446_368 {
+                came.refuse(18, 0);
+            }
+        },
+    ),
+    (
+        "check_list",
+        "18 before what is wrong with the survey",
+        |given, came| came.refuse_length_first(given, &[1, 2, 3, 4, 5, 6, 7, 8, 14]),
+    ),
+    (
+        "check_list",
+        "18 before what is wrong with a drawing",
+        |given, came| came.refuse_length_first(given, &[2, 3, 4, 5, 6, 7, 8]),
+    ),
+    ("check_list", "18 before 12 and 13", |given, came| {
+        came.refuse_length_first(given, &[12, 13])
+    }),
+    ("check_list", "13 told before 12", |given, came| {
+        if came.refusal() == 12 && !(1..=8).contains(&given.settings[1]) {
+            came.set_refusal(13);
+        }
+    }),
+    ("check_list", "the drawing at fault not told", |_, came| {
+        if came.drawing() != 0 {
+            *came.returned &= (1 << 40) - 1;
+        }
+    }),
+    (
+        "check_usual",
+        "four cables taken as three",
+        |given, came| came.say_for(given, 2, 3),
+    ),
+    ("check_usual", "four cables taken as five", |given, came| {
+        came.say_for(given, 2, 5)
+    }),
+    ("check_usual", "two cranes taken as one", |given, came| {
+        came.say_for(given, 1, 4)
+    }),
+    ("check_usual", "two cranes taken as three", |given, came| {
+        came.say_for(given, 3, 4)
+    }),
+    (
+        "check_usual",
+        "two cranes taken as two drawings",
+        |given, came| {
+            if came.answered() {
+                let list = counted(given.first, 2, 4, drawings, different);
+                came.say(given.second == list);
+            }
+        },
+    ),
+    (
+        "check_usual",
+        "yes to a list that ends early",
+        |given, came| {
+            came.say_yes(given, |list, right| {
+                !list.is_empty() && right.starts_with(list)
+            })
+        },
+    ),
+    (
+        "check_usual",
+        "yes to a list that goes on",
+        |given, came| came.say_yes(given, |list, right| list.starts_with(right)),
+    ),
+    ("check_usual", "yes with a wrong support", |given, came| {
+        came.say_yes(given, |list, right| alike(list, right, unsupported))
+    }),
+    ("check_usual", "yes always", |_, came| came.say(true)),
+    (
+        "check_usual",
+        "no to a list without entries",
+        |given, came| {
+            if given.second.is_empty() {
+                came.say(false);
+            }
+        },
+    ),
+    ("check_usual", "18 told as no", |_, came| {
+        if came.refusal() == 18 {
+            *came.returned = 0;
+        }
+    }),
+    (
+        "check_usual",
+        "18 before what is wrong with the survey",
+        |given, came| came.refuse_length_first(given, &[1, 2, 3, 4, 5, 6, 7, 8, 14]),
+    ),
 ];

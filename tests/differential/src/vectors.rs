@@ -6,6 +6,7 @@ mod cranes;
 mod drawings;
 mod edges;
 mod large;
+mod lists;
 mod lone;
 mod notation;
 mod pairs;
@@ -15,7 +16,7 @@ mod tests;
 
 use crate::answers::{self, Answer};
 use crate::book::of_settings;
-use crate::catalogue::{Codes, ENTRY};
+use crate::catalogue::{self, Codes, ENTRY};
 use crate::cranes::told;
 use crate::lone::{near, NONE};
 use crate::shims::Given;
@@ -27,9 +28,9 @@ const LENT: u8 = 238;
 /// The program lends no more bytes.
 const MOST_LENT: usize = 16384;
 
-/// The program reads two pages of so many bytes. A page's last call fills it by an argument that it does not look at.
+/// The program reads three pages of so many bytes. A page's last call fills it by an argument that it does not look at.
 const PAGE: usize = 65536;
-const PAGES: usize = 2;
+const PAGES: usize = 3;
 const LAST: &str = "end of the page, check_drawing:";
 
 /// A call of the library: its arguments, and how many bytes it is lent.
@@ -47,6 +48,9 @@ enum Call<'a> {
     UsualCatalogue(&'a [u8], usize),
     /// Its first argument is the kinds of devices and of cables, as numbers of two bytes.
     Book(&'a [u8; 4], u16, usize),
+    /// The list comes last.
+    CheckList(&'a [u8], u16, u16, &'a [u8]),
+    CheckUsual(&'a [u8], &'a [u8]),
 }
 
 /// A call as the list has it.
@@ -101,6 +105,12 @@ impl<'a> Call<'a> {
                 limit,
                 ..lent(one(13, "book", kinds), room)
             },
+            Call::CheckList(survey, threshold, limit, list) => Parts {
+                threshold,
+                limit,
+                ..two(14, "check_list", survey, list)
+            },
+            Call::CheckUsual(survey, list) => two(15, "check_usual", survey, list),
         }
     }
 
@@ -128,7 +138,26 @@ impl<'a> Call<'a> {
                 let [a, b] = [[a_low, a_high], [b_low, b_high]].map(u16::from_le_bytes);
                 answers::catalogue(&of_settings(a.into(), b.into(), limit.into()), lent)
             }
+            Call::CheckList(survey, threshold, limit, list) => {
+                let entries = codes.of_survey(survey, threshold.into(), limit.into());
+                answers::check_list(&entries, list)
+            }
+            Call::CheckUsual(survey, list) => {
+                answers::check_list(&codes.of_survey(survey, 2, 4), list)
+            }
         }
+    }
+
+    /// What there is to tell of a list that is checked, once its survey is accepted.
+    fn told_of_list(&self, codes: &mut Codes) -> Option<&'static str> {
+        let (survey, threshold, limit, list) = match *self {
+            Call::CheckList(survey, threshold, limit, list) => (survey, threshold, limit, list),
+            Call::CheckUsual(survey, list) => (survey, 2, 4, list),
+            _ => return None,
+        };
+        let entries = codes.of_survey(survey, threshold.into(), limit.into());
+        let right = catalogue::bytes(&entries.ok()?);
+        Some(crate::lists::told(list, &right))
     }
 }
 
@@ -145,11 +174,12 @@ pub struct List {
     codes: Codes,
     seen: BTreeSet<(&'static str, Seen)>,
     beside_cranes: BTreeSet<(&'static str, Seen)>,
+    beside_lists: BTreeSet<(&'static str, Seen)>,
     fetches: Vec<(Vec<u8>, usize)>,
 }
 
 /// What a call may answer: something in a word, or a refusal and, if it is not the only or the first one's, whose; and what is lone
-/// about that which it comes from, or what there is to tell of cranes.
+/// about that which it comes from, or what there is to tell of cranes or of a list.
 #[derive(Clone, Copy, Debug, PartialEq, Eq, PartialOrd, Ord)]
 enum Seen {
     Answer(&'static str, &'static str),
@@ -238,6 +268,10 @@ impl List {
         let lent = vec![LENT; parts.lent.unwrap_or(0)];
         let answer = call.answer(&mut self.codes, &lent);
         self.note(parts.word, &parts, &lent, &answer);
+        if let Some(told) = call.told_of_list(&mut self.codes) {
+            self.beside_lists
+                .insert((parts.word, Seen::of(&answer, told)));
+        }
         self.put_parts(&name, &parts);
         self.put_line(&name, &answer);
         if parts.lent.is_some() {
@@ -298,6 +332,7 @@ pub fn list() -> List {
     book::put(&mut list);
     pairs::put(&mut list);
     cranes::put(&mut list);
+    lists::put(&mut list);
     list.put_cut();
     list
 }

@@ -178,8 +178,37 @@ impl List {
         self.assert_refused(name, Call::UsualCatalogue(survey, 3), wanted);
     }
 
+    /// Every call that checks a list refuses this survey, whatever the list is: a byte is none.
+    pub fn put_refused_check(&mut self, name: &str, survey: &[u8], wanted: Refused) {
+        self.assert_refused(name, Call::CheckList(survey, 1, 2, &[1]), wanted);
+        self.assert_refused(name, Call::CheckUsual(survey, &[1]), wanted);
+    }
+
     pub fn put_refused_settings(&mut self, name: &str, asked: &Asked, number: u8) {
         let call = Call::WriteCatalogue(asked.survey, asked.threshold, asked.limit, 3);
         self.assert_refused(name, call, Refused::of(number));
+    }
+
+    /// Whether a list is a catalogue.
+    pub fn put_check(&mut self, name: &str, asked: &Asked, list: &[u8], wanted: &str) {
+        let call = Call::CheckList(asked.survey, asked.threshold, asked.limit, list);
+        assert_eq!(self.put(name, call).said, wanted, "{name}");
+    }
+
+    /// Whether it is the usual one.
+    pub fn put_usual_check(&mut self, name: &str, survey: &[u8], list: &[u8], wanted: &str) {
+        let call = Call::CheckUsual(survey, list);
+        assert_eq!(self.put(name, call).said, wanted, "{name}");
+    }
+
+    /// What the settings or the length of a list are refused with.
+    pub fn put_refused_list(&mut self, name: &str, asked: &Asked, list: &[u8], number: u8) {
+        let call = Call::CheckList(asked.survey, asked.threshold, asked.limit, list);
+        self.assert_refused(name, call, Refused::of(number));
+    }
+
+    pub fn put_refused_usual_list(&mut self, name: &str, survey: &[u8], list: &[u8]) {
+        let call = Call::CheckUsual(survey, list);
+        self.assert_refused(name, call, Refused::of(18));
     }
 }

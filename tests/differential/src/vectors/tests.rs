@@ -3,6 +3,7 @@ use super::{List, Seen};
 use crate::answers::{self, Answer, FIRST, LATER, SECOND};
 use crate::cranes::*;
 use crate::drawing::{CRANE_AT, RECORD};
+use crate::lists;
 use crate::lone::*;
 use std::collections::BTreeSet;
 use std::sync::OnceLock;
@@ -14,6 +15,7 @@ const OF_A_CODE: &[u8] = &[9, 10, 11];
 const OF_THE_SETTINGS: &[u8] = &[12, 13];
 const OF_THE_OUTPUT: &[u8] = &[15];
 const OF_THE_BOOK: &[u8] = &[16, 17];
+const OF_A_LIST: &[u8] = &[18];
 
 /// The list, made once for all tests.
 fn list() -> &'static List {
@@ -87,6 +89,20 @@ const ROWS: &[Row] = &[
         LATER,
     ),
     ("book", &["entries"], &[OF_THE_BOOK, OF_THE_OUTPUT], &[], ""),
+    (
+        "check_list",
+        &["yes", "no"],
+        &[OF_THE_SETTINGS, OF_A_SURVEY, IN_A_SURVEY, OF_A_LIST],
+        IN_A_SURVEY,
+        LATER,
+    ),
+    (
+        "check_usual",
+        &["yes", "no"],
+        &[OF_A_SURVEY, IN_A_SURVEY, OF_A_LIST],
+        IN_A_SURVEY,
+        LATER,
+    ),
 ];
 
 /// A call, its answers of lone devices, and what is lone.
@@ -111,6 +127,10 @@ const LONE_ANSWERS: &[(&str, &[&str], &str)] = &[
     ("write_catalogue", &["no entry"], ALL_LONE),
     ("usual_catalogue", &["entries"], SOME_LONE),
     ("usual_catalogue", &["no entry"], ALL_LONE),
+    ("check_list", &["yes", "no"], SOME_LONE),
+    ("check_list", &["yes", "no"], ALL_LONE),
+    ("check_usual", &["yes", "no"], SOME_LONE),
+    ("check_usual", &["yes", "no"], ALL_LONE),
 ];
 
 /// Near a lone device drawings are refused with 3 and 7, codes with 10 and 11.
@@ -134,6 +154,10 @@ const LONE_REFUSALS: &[(&str, &[(u8, &str)], &[&str])] = &[
     ("decode", &[(15, LONE)], &[FIRST]),
     ("match_drawing", &[(15, LONE)], &[FIRST]),
     ("usual_catalogue", &[(15, SOME_LONE)], &[FIRST]),
+    ("check_list", LONE_DRAWINGS, &[FIRST, LATER]),
+    ("check_usual", LONE_DRAWINGS, &[FIRST, LATER]),
+    ("check_list", &[(18, SOME_LONE), (18, ALL_LONE)], &[FIRST]),
+    ("check_usual", &[(18, SOME_LONE), (18, ALL_LONE)], &[FIRST]),
 ];
 
 #[test]
@@ -191,6 +215,9 @@ const CRANE_ANSWERS: &[(&str, &[&str], &[&str])] = &[
     ("write_catalogue", &["no entry"], &[TOO_FEW]),
     ("usual_catalogue", &["entries"], &[SIDE_BY_SIDE, SCATTERED]),
     ("usual_catalogue", &["no entry"], &[ONE_CRANE, TOO_FEW]),
+    ("check_list", &["yes"], OF_SHEETS),
+    ("check_list", &["yes", "no"], &[ONE_CRANE, TOO_FEW]),
+    ("check_usual", &["yes", "no"], &[ONE_CRANE, TOO_FEW]),
 ];
 
 /// A call, its refusal beside cranes, whose it is, and what there is to tell.
@@ -204,6 +231,8 @@ const CRANE_REFUSALS: &[(&str, u8, &[&str], &str)] = &[
     ("match_drawing", 1, &[FIRST, SECOND], OLD),
     ("write_catalogue", 1, &[FIRST], OLD),
     ("usual_catalogue", 1, &[FIRST], OLD),
+    ("check_list", 1, &[FIRST], OLD),
+    ("check_usual", 1, &[FIRST], OLD),
 ];
 
 #[test]
@@ -221,6 +250,26 @@ fn every_outcome_beside_cranes_is_listed() {
     let list = list();
     let missing: Vec<_> = wanted.difference(&list.beside_cranes).collect();
     assert!(missing.is_empty(), "{missing:?}");
+}
+
+/// Beside a list of every kind, in either check.
+#[test]
+fn every_outcome_beside_lists_is_listed() {
+    let mut wanted = BTreeSet::new();
+    for call in ["check_list", "check_usual"] {
+        for &(said, told) in lists::ANSWERS {
+            wanted.extend(told.iter().map(|&near| (call, Seen::Answer(said, near))));
+        }
+        let refused = |&near| (call, Seen::Refusal(18, FIRST, near));
+        wanted.extend(lists::REFUSED.iter().map(refused));
+    }
+    let list = list();
+    let missing: Vec<_> = wanted.difference(&list.beside_lists).collect();
+    let further: Vec<_> = list.beside_lists.difference(&wanted).collect();
+    assert!(
+        missing.is_empty() && further.is_empty(),
+        "{missing:?} {further:?}"
+    );
 }
 
 /// What a wrong reader gives of a survey's drawing in place of its very bytes.

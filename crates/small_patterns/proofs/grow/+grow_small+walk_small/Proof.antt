@@ -1,14 +1,15 @@
 -- `grow::grow_small` and `grow::walk_small` meet their contracts. The walk's invariant: what goes on by the records below t is listed.
 -- Assumes nothing.
 use mathlib.Core.Path.{_≡_, sym, ap, _∙_}
+use mathlib.Core.Bool.{Bool, true, false}
 use mathlib.Core.Logic.{⊎-elim}
-use Prim.Native.Nat.{ℕ, _+_, _*_, _-_, _^_, _≤_, _<_}
+use Prim.Native.Nat.{ℕ, _*_, _-_, _<_}
 use native.Mathlib.Omega.{arith}
-use lib.ListN.{length}
 use borrow.Author.Needs.{needs}
-use Rattle.laws.specs.PutRecords.{put-record}
+use borrow.Author.Tests.{not-true, not-false}
 use Rattle.codes.specs.Code.{Rec, recs-in}
 use Rattle.growth.specs.Catalogue.{entry, entry-bytes}
+use Rattle.growth.specs.Page.{Entry-handed}
 use Rattle.books.specs.SmallRecords.{next-count}
 use Rattle.books.specs.NumberedRecords.{numbered-joins}
 use Rattle.small_patterns.specs.SmallWalk.{Small-so-far}
@@ -33,7 +34,7 @@ use Rattle.small_patterns.proofs.grow.+grow_small+walk_small.Lts-grow_s
 use Rattle.small_patterns.proofs.grow.walk_small.Reads as walk
 use Rattle.small_patterns.proofs.grow.walk_small.Kinds as walk-kinds
 use Rattle.small_patterns.proofs.grow.+grow_small+walk_small.Lts-walk_small as walk-lts
-use Rattle.entries.proofs.entry.put_entry.Reads as put-entry-reads
+use Rattle.entries.proofs.next.write_next.Reads as write-next-reads
 use Rattle.records.proofs.entry.Entry.new.Reads as new-reads
 use Rattle.small_patterns.proofs.grow.try_record.Reads as try-record-reads
 use Rattle.small_patterns.proofs.next.next_count.Reads as next-count-reads
@@ -64,8 +65,8 @@ abbrev grow-claims : ℕ → grow-lts.Claims
 grow-claims t = (
   new-reads.Asked,
   new-reads.Learnt,
-  put-entry-reads.Asked,
-  put-entry-reads.Learnt,
+  write-next-reads.Asked,
+  write-next-reads.Learnt,
   walk-below t,
   walk.Post,
 )
@@ -84,75 +85,69 @@ walk-claims t = (
   grow.Post,
 )
 
--- the output's length is a number of 64 bits
-length-low : (t : ℕ) (c : grow-lts.After-slice-known (grow-claims t) (grow-at t) grow.Post) → length (c .before .args .output .now) < 2 ^ 64
-length-low t c = search needs
-
-grow-mul-if1 : (t : ℕ) → grow-lts.Need-mul-if1 (grow-claims t) (grow-at t) grow.Post
-grow-mul-if1 t c = omega (arith, c .before .pre .1 .room, length-low t c)
-
-grow-sub-if1 : (t : ℕ) → grow-lts.Need-sub-if1 (grow-claims t) (grow-at t) grow.Post
-grow-sub-if1 t c = c .before .pre .1 .room
-
-grow-returns : (t : ℕ) → grow-lts.Need-returns (grow-claims t) (grow-at t) grow.Post
-grow-returns t c = small-full (c .before .before .pre .1) (omega (arith, c .if1 .taken))
-
 grow-new-requires : (t : ℕ) → grow-lts.Need-new-requires (grow-claims t) (grow-at t) grow.Post
 grow-new-requires t c κs = search needs
 
-grow-put-entry-requires : (t : ℕ) → grow-lts.Need-put-entry-requires (grow-claims t) (grow-at t) grow.Post
-grow-put-entry-requires t c κs =
-    let e = c .before .before .before in
-    let p = e .before .before .pre .1 in
-    rw (c .before .new .ensures)
-    (p .held .long, omega (arith, e .if1 .left, p .room), omega (arith, p .most, p .few .limit), omega arith)
+grow-write-next-requires : (t : ℕ) → grow-lts.Need-write-next-requires (grow-claims t) (grow-at t) grow.Post
+grow-write-next-requires t c κs =
+    let n = c .before .before in
+    let p = n .before .before .pre .1 in
+    rw (n .new .ensures) (p .held .long, p .room, omega (arith, p .most, p .few .limit), omega arith)
 
--- the entry that was written has room, and is the code's
-entry-fits : (t : ℕ) (c : grow-lts.After-put-entry (grow-claims t) (grow-at t) grow.Post)
-    → let s = c .before .before .before .before .before .before in 42 * s .args .count + 42 ≤ length (s .args .output .now)
-entry-fits t c = omega (arith, c .before .before .before .before .if1 .left, c .before .before .before .before .before .before .pre .1 .room)
+-- the code's own entry was handed on
+handed : (t : ℕ) (c : grow-lts.After-write-next (grow-claims t) (grow-at t) grow.Post) (r : Bool) → c .write-next .result ≡ r
+    → let s = c .before .before .before .before .before in
+    Entry-handed false (entry-bytes (entry 0 (recs-in (s .args .cables) (s .args .code .now)))) (s .args .count) (s .args .output .now) r
+    (c .write-next .last .1 .1 .1 .0)
+handed t c r e = rw (c .before .before .before .new .ensures, e) at (c .write-next .ensures)
 
-entry-is : (t : ℕ) (c : grow-lts.After-put-entry (grow-claims t) (grow-at t) grow.Post)
-    → let s = c .before .before .before .before .before .before in
-    c .put-entry .last .1 .1 .1 .0
-    ≡ put-record 42 (s .args .count) (entry-bytes (entry 0 (recs-in (s .args .cables) (s .args .code .now)))) (s .args .output .now)
-entry-is t c = rw (c .before .before .new .ensures) at (c .put-entry .ensures)
+grow-returns : (t : ℕ) → grow-lts.Need-returns (grow-claims t) (grow-at t) grow.Post
+grow-returns t c =
+    let w = c .before .before .before in
+    small-full (w .before .before .before .before .before .pre .1) (handed t w false (not-true _ (c .if1 .taken)))
 
-next-low : (t : ℕ) (c : grow-lts.After-put-entry (grow-claims t) (grow-at t) grow.Post)
-    → c .before .before .before .before .before .before .args .count + 1 < 2 ^ 64
-next-low t c = omega (arith, entry-fits t c, length-low t (c .before .before .before .before .before))
+grow-same-length : (t : ℕ) → grow-lts.Need-same-length (grow-claims t) (grow-at t) grow.Post
+grow-same-length t c = grow-returns t c .size
 
-grow-add-t16 : (t : ℕ) → grow-lts.Need-add-t16 (grow-claims t) (grow-at t) grow.Post
-grow-add-t16 t c = omega (arith, next-low t (c .before .before .before .before))
+-- and stands there
+stands : (t : ℕ) (c : grow-lts.Else1 (grow-claims t) (grow-at t) grow.Post)
+    → let s = c .before .before .before .before .before .before .before .before in
+    Entry-handed false (entry-bytes (entry 0 (recs-in (s .args .cables) (s .args .code .now)))) (s .args .count) (s .args .output .now) true
+    (c .before .before .before .write-next .last .1 .1 .1 .0)
+stands t c = handed t (c .before .before .before) true (not-false _ (c .if1 .left))
+
+grow-add-t13 : (t : ℕ) → grow-lts.Need-add-t13 (grow-claims t) (grow-at t) grow.Post
+grow-add-t13 t c = omega (arith, stands t (c .before .before) .2)
 
 grow-returns-2 : (t : ℕ) → grow-lts.Need-returns-2 (grow-claims t) (grow-at t) grow.Post
 grow-returns-2 t c =
-    let u = c .before .before .before .before in
-    small-leaf (u .before .before .before .before .before .before .pre .1) (entry-fits t u) (entry-is t u) (c .if2 .taken)
+    let u = c .before .before in
+    small-leaf (u .before .before .before .before .before .before .before .before .pre .1) (stands t u) (c .if2 .taken)
 
-grow-same-length : (t : ℕ) → grow-lts.Need-same-length (grow-claims t) (grow-at t) grow.Post
-grow-same-length t c = grow-returns-2 t c .size
+grow-same-length-2 : (t : ℕ) → grow-lts.Need-same-length-2 (grow-claims t) (grow-at t) grow.Post
+grow-same-length-2 t c = grow-returns-2 t c .size
 
 grow-add-walk : (t : ℕ) → grow-lts.Need-add-walk-small (grow-claims t) (grow-at t) grow.Post
-grow-add-walk t c = omega (arith, next-low t (c .before .before .before .before .before .before))
+grow-add-walk t c = omega (arith, stands t (c .before .before .before .before) .2)
 
 grow-walk-requires : (t : ℕ) → grow-lts.Need-walk-small-requires (grow-claims t) (grow-at t) grow.Post
 grow-walk-requires t c κs =
-    let u = c .before .before .before .before .before .before in
-    let s = u .before .before .before .before .before .before in (
-      omega (arith, s .pre .0, s .pre .1 .most, c .before .before .if2 .left),
-      small-walks (s .pre .1) (entry-fits t u) (entry-is t u) (c .before .before .if2 .left),
+    let e = c .before .before in
+    let u = e .before .before in
+    let s = u .before .before .before .before .before .before .before .before in (
+      omega (arith, s .pre .0, s .pre .1 .most, e .if2 .left),
+      small-walks (s .pre .1) (stands t u) (e .if2 .left),
     )
 
 grow-returns-3 : (t : ℕ) → grow-lts.Need-returns-3 (grow-claims t) (grow-at t) grow.Post
 grow-returns-3 t c =
-    let u = c .before .before .before .before .before .before .before .before .before in
     let v = c .before .before in
-    small-went (u .before .before .before .before .before .before .pre .1) (entry-fits t u) (entry-is t u)
-    (c .before .before .before .before .before .if2 .left) (v .walk-small .ensures)
+    let e = v .before .before .before in
+    let u = e .before .before in
+    small-went (u .before .before .before .before .before .before .before .before .pre .1) (stands t u) (e .if2 .left) (v .walk-small .ensures)
 
-grow-same-length-2 : (t : ℕ) → grow-lts.Need-same-length-2 (grow-claims t) (grow-at t) grow.Post
-grow-same-length-2 t c = grow-returns-3 t c .size
+grow-same-length-3 : (t : ℕ) → grow-lts.Need-same-length-3 (grow-claims t) (grow-at t) grow.Post
+grow-same-length-3 t c = grow-returns-3 t c .size
 
 abbrev walk-Inv-loop : walk-lts.InvT-loop
 walk-Inv-loop bounds code₀ cables devices output₀ count most written₀ t₀ code output written t =
@@ -267,17 +262,16 @@ pub +grow-small+walk-small-spec : {M : Type 1} → statement M
 +grow-small+walk-small-spec = close μ-grow μ-walk (λ t. grow-lts.spec (grow-claims t)
     (grow-at t)
     grow.Post
-    (grow-mul-if1 t)
-    (grow-sub-if1 t)
-    (grow-returns t)
     (grow-new-requires t)
-    (grow-put-entry-requires t)
-    (grow-add-t16 t)
+    (grow-write-next-requires t)
     (grow-same-length t)
+    (grow-returns t)
+    (grow-add-t13 t)
+    (grow-same-length-2 t)
     (grow-returns-2 t)
     (grow-add-walk t)
     (grow-walk-requires t)
-    (grow-same-length-2 t)
+    (grow-same-length-3 t)
     (grow-returns-3 t))
     λ t. walk-lts.spec (walk-claims t)
     (walk-at t)

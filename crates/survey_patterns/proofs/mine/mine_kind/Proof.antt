@@ -14,14 +14,14 @@ count-firsts-requires c κs = search needs
 choose-requires : tie.Need-choose-requires
 choose-requires c κs =
     let f = c .before .before .before in
-    let s = f .before .before .before .before .before in
+    let s = f .before .before .before .before .before .before in
     mine-chooses (s .pre .can) (s .pre .done) (f .count-firsts .ensures)
 
 walk-requires : tie.Need-walk-requires
 walk-requires c κs =
     let h = c .before .before .before .before .before .before .before .before in
     let f = h .before .before .before .before in
-    let s = f .before .before .before .before .before in (
+    let s = f .before .before .before .before .before .before in (
       mine-walks (s .pre .can) (s .pre .done) (f .count-firsts .ensures) (h .choose .ensures) (no-records _),
       nothing-held (record { long = refl; wide = refl }),
       record { sized = s .pre .sized; at = λ e z. absurd (omega arith) },
@@ -35,7 +35,7 @@ returns c =
     let w = c .before .before in
     let h = w .before .before .before .before .before .before .before .before .before in
     let f = h .before .before .before .before in
-    let s = f .before .before .before .before .before in
+    let s = f .before .before .before .before .before .before in
     record {
       after = λ first done.
           kind-after (s .pre .can) done (f .count-firsts .ensures) (h .choose .ensures) (no-records _) _ (search needs) (w .walk .ensures .0);

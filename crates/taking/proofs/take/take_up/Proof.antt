@@ -1,12 +1,15 @@
 -- `take::take_up` meets its contract. Assumes nothing.
 use mathlib.Core.Path.{refl}
-use Prim.Native.Nat.{_^_, _<_}
-use native.Mathlib.Omega.{arith}
-use lib.ListN.{length}
 use borrow.Author.Needs.{needs}
 use borrow.Author.Tests.{not-true, not-false}
+use Rattle.taking.specs.TakingLaws.{entry-listed, entry-stopped}
 use Rattle.taking.proofs.take.take_up.Statement.{statement}
 use Rattle.taking.proofs.take.take_up.Tie as tie
+use Rattle.taking.proofs.take.take_up.Reads as reads
+use Rattle.taking.proofs.take.take_up.Lts as lts
+use Rattle.entries.proofs.next.next_entry.Reads as next-entry-reads
+use Rattle.least_grown.proofs.grown.least_grown.Reads as least-grown-reads
+use Rattle.records.proofs.entry.Entry.new.Reads as new-reads
 
 least-grown-requires : tie.Need-least-grown-requires
 least-grown-requires c κs = search needs
@@ -16,41 +19,35 @@ returns c =
     let v = c .before .least-grown in
     record { not-least = v .ensures .fails (not-true _ (c .if1 .taken)); same = refl }
 
-mul-if2 : tie.Need-mul-if2
-mul-if2 c = search needs
-
-sub-if2 : tie.Need-sub-if2
-sub-if2 c = search needs
-
-returns-2 : tie.Need-returns-2
-returns-2 c =
-    let v = c .before .before .least-grown in
-    record { least = v .ensures .holds (not-false _ (c .before .if1 .left)); short = omega (arith, c .if2 .taken); same = refl }
-
 new-requires : tie.Need-new-requires
 new-requires c κs = search needs
 
-put-entry-requires : tie.Need-put-entry-requires
-put-entry-requires c κs = rw (c .before .new .ensures) (search needs)
+next-entry-requires : tie.Need-next-entry-requires
+next-entry-requires c κs =
+    let p = c .before .before .before .before .before .before .pre in
+    rw (c .before .new .ensures) (p .front .size, p .out-room, p .most, p .few)
 
 same-length : tie.Need-same-length
 same-length c = search needs
 
-slice-low :
-    (c : tie.After-slice-known2)
-    → length (c .before .before .before .before .before .before .before .before .before .args .output .now) < 2 ^ 64
-slice-low c = search needs
+returns-2 : tie.Need-returns-2
+returns-2 c =
+    let e = c .before .before .before .before .before .before in
+    let h = c .before .before .before .next-entry in
+    let n = c .before .before .before .before .before in
+    entry-stopped (e .before .before .before .before .args .checking) (h .result) (e .before .least-grown .ensures .holds (not-false _ (e .if1 .left)))
+    (not-true _ (c .if2 .taken)) (rw (n .new .ensures) at (h .ensures))
+
+same-length-2 : tie.Need-same-length-2
+same-length-2 c = search needs
 
 returns-3 : tie.Need-returns-3
 returns-3 c =
-    let full = c .before .before .before .before .before in
-    let v = full .before .before .least-grown in
-    record {
-      least = v .ensures .holds (not-false _ (full .before .if1 .left));
-      room = omega (arith, full .if2 .left, full .before .before .before .before .pre .out-room);
-      low = omega (arith, full .if2 .left, slice-low c);
-      is = rw (c .before .before .before .before .new .ensures) at (c .before .before .put-entry .ensures);
-    }
+    let e = c .before .before .before .before .before .before in
+    let h = c .before .before .before .next-entry in
+    let n = c .before .before .before .before .before in
+    entry-listed (e .before .before .before .before .args .checking) (h .result) (e .before .least-grown .ensures .holds (not-false _ (e .if1 .left)))
+    (not-false _ (c .if2 .left)) (rw (n .new .ensures) at (h .ensures))
 
 pub take-up-spec : {M : Type 1} → statement M
 take-up-spec =
@@ -58,10 +55,9 @@ take-up-spec =
     (tie.spec
     least-grown-requires
     returns
-    mul-if2
-    sub-if2
-    returns-2
     new-requires
-    put-entry-requires
+    next-entry-requires
     same-length
+    returns-2
+    same-length-2
     returns-3)

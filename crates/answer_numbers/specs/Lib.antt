@@ -1,0 +1,4 @@
+-- Definitions.
+pub mod Packed
+-- Laws over them.
+pub mod PackedLaws

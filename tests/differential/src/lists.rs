@@ -1,0 +1,236 @@
+//! Lists made elsewhere, request R-5. Whether one is the catalogue is told without writing a catalogue: every part of 42 bytes is read as an
+//! entry, and the list is right if each is that of a frequent pattern, their codes rise, and there are as many as there are such patterns.
+//! Then lists that are wrong, each in its own way, and what there is to tell of one: every way is seen to occur.
+#[cfg(test)]
+mod tests;
+
+use crate::catalogue::{Entry, ENTRY};
+use crate::code::{self, Code};
+use crate::random::Random;
+use std::cmp::Ordering;
+use std::collections::HashMap;
+
+const MOST_RECORDS: usize = 8;
+const SUPPORT_AT: usize = 1;
+const RECORDS_AT: usize = 2;
+
+/// The entry in 42 bytes: as many records of a code as its first byte says, and zeros behind them.
+fn read(part: &[u8]) -> Option<Entry> {
+    let records = usize::from(part[0]);
+    if !(1..=MOST_RECORDS).contains(&records) {
+        return None;
+    }
+    let (code, rest) = part[RECORDS_AT..].split_at(code::RECORD * records);
+    let padded = rest.iter().all(|&byte| byte == 0);
+    Some(Entry {
+        code: code::read(code).ok().filter(|_| padded)?,
+        support: part[SUPPORT_AT].into(),
+    })
+}
+
+/// Whether a list of whole entries is right for the patterns that are frequent, in whatever order these are given.
+pub fn is_right(list: &[u8], frequent: &[Entry]) -> bool {
+    if list.len() != frequent.len() * ENTRY {
+        return false;
+    }
+    let Some(listed) = list.chunks(ENTRY).map(read).collect::<Option<Vec<_>>>() else {
+        return false;
+    };
+    let supports: HashMap<&Code, usize> = frequent.iter().map(|e| (&e.code, e.support)).collect();
+    let rise = listed.is_sorted_by(|a, b| code::order(&a.code, &b.code) == Ordering::Less);
+    let has = |entry: &Entry| supports.get(&entry.code) == Some(&entry.support);
+    rise && listed.iter().all(has)
+}
+
+/// Of a list that is right.
+pub const RIGHT: &str = ": the catalogue";
+pub const NONE_FREQUENT: &str = ": no entry, and nothing is frequent";
+/// Of one that lacks entries: all of them, the last ones, others.
+pub const EMPTY: &str = ": no entry, though some are due";
+pub const CUT: &str = ": the last entries left out";
+pub const GAP: &str = ": other entries left out";
+/// Of one that has the catalogue in front: what stands behind it.
+pub const TWICE: &str = ": the last entry twice";
+pub const ZEROS: &str = ": zeros behind it";
+pub const FURTHER: &str = ": something else behind it";
+/// Of one with as many entries.
+pub const SUPPORT: &str = ": another support";
+pub const PADDING: &str = ": something behind an entry's records";
+pub const ORDER: &str = ": another order";
+pub const OTHERS: &str = ": other entries";
+/// Of any other one of whole entries.
+pub const ANOTHER: &str = ": another list";
+/// Of one that has no whole entries.
+pub const BYTE_MORE: &str = ": the catalogue and a byte";
+pub const BYTE_LESS: &str = ": the catalogue less a byte";
+pub const NOT_WHOLE: &str = ": another length";
+
+/// Every answer that the check of a list gives beside a list of which this can be told.
+pub const ANSWERS: &[(&str, &[&str])] = &[
+    ("yes", &[RIGHT, NONE_FREQUENT]),
+    (
+        "no",
+        &[
+            EMPTY, CUT, GAP, TWICE, ZEROS, FURTHER, SUPPORT, PADDING, ORDER, OTHERS, ANOTHER,
+        ],
+    ),
+];
+
+/// The same of refusal 18.
+pub const REFUSED: &[&str] = &[BYTE_MORE, BYTE_LESS, NOT_WHOLE];
+
+/// What there is to tell of a list, beside the bytes that it should have.
+pub fn told(list: &[u8], right: &[u8]) -> &'static str {
+    if list.len() % ENTRY != 0 {
+        return of_length(list, right);
+    }
+    if list == right {
+        return if right.is_empty() {
+            NONE_FREQUENT
+        } else {
+            RIGHT
+        };
+    }
+    match list.strip_prefix(right) {
+        Some(behind) if behind.len() == ENTRY && right.ends_with(behind) => TWICE,
+        Some(behind) if behind.iter().all(|&byte| byte == 0) => ZEROS,
+        Some(_) => FURTHER,
+        None if list.is_empty() => EMPTY,
+        None if right.starts_with(list) => CUT,
+        None if list.len() == right.len() => of_entries(list, right),
+        None if is_part(list, right) => GAP,
+        None => ANOTHER,
+    }
+}
+
+fn of_length(list: &[u8], right: &[u8]) -> &'static str {
+    if list.len() == right.len() + 1 && list.starts_with(right) {
+        BYTE_MORE
+    } else if list.len() + 1 == right.len() && right.starts_with(list) {
+        BYTE_LESS
+    } else {
+        NOT_WHOLE
+    }
+}
+
+fn of_entries(list: &[u8], right: &[u8]) -> &'static str {
+    let differ = || (0..list.len()).filter(|&at| list[at] != right[at]);
+    let is_padding = |at: usize| {
+        let entry = at - at % ENTRY;
+        RECORDS_AT + code::RECORD * usize::from(right[entry]) <= at - entry
+    };
+    let sorted = |bytes: &[u8]| {
+        let mut entries: Vec<Vec<u8>> = bytes.chunks(ENTRY).map(<[u8]>::to_vec).collect();
+        entries.sort();
+        entries
+    };
+    if differ().all(|at| at % ENTRY == SUPPORT_AT) {
+        SUPPORT
+    } else if differ().all(is_padding) {
+        PADDING
+    } else if sorted(list) == sorted(right) {
+        ORDER
+    } else {
+        OTHERS
+    }
+}
+
+/// Whether the entries of a list are some of the right ones, in their order.
+fn is_part(list: &[u8], right: &[u8]) -> bool {
+    let mut right = right.chunks(ENTRY);
+    list.chunks(ENTRY)
+        .all(|entry| right.any(|other| other == entry))
+}
+
+/// The right list, and lists that are wrong, each in its own way: too short, too long, with another byte, in another order. Of a list
+/// without entries some of them are right after all.
+pub fn spoiled(random: &mut Random, right: &[u8]) -> Vec<Vec<u8>> {
+    let entries = right.len() / ENTRY;
+    let no_entry = random_length(random);
+    let mut lists = vec![
+        right.to_vec(),
+        Vec::new(),
+        [right, &[0; ENTRY]].concat(),
+        [right, &random.bytes(ENTRY)].concat(),
+        [right, right].concat(),
+        [right, &[0]].concat(),
+        [right, &random.bytes(no_entry)].concat(),
+        random.bytes(ENTRY),
+        random.bytes(right.len()),
+        random.bytes(right.len() + ENTRY),
+    ];
+    if entries > 0 {
+        lists.extend(changed(random, right));
+        lists.extend(without(random, right));
+    }
+    if entries > 1 {
+        lists.extend(exchanged(random, right));
+    }
+    lists
+}
+
+/// More than no byte and less than an entry.
+fn random_length(random: &mut Random) -> usize {
+    random.between(1, ENTRY - 1)
+}
+
+/// A byte of an entry, often the first or the last of all, is another: a support, one behind the records, any.
+fn changed(random: &mut Random, right: &[u8]) -> Vec<Vec<u8>> {
+    let entries = right.len() / ENTRY;
+    let mut entry = || match random.below(3) {
+        0 => 0,
+        1 => entries - 1,
+        _ => random.below(entries),
+    };
+    let padding = |entry: usize| RECORDS_AT + code::RECORD * usize::from(right[ENTRY * entry]);
+    let places = [entry(), entry(), entry(), entry(), entry()];
+    let mut lists = Vec::new();
+    let mut put = |entry: usize, at: usize, change: u8| {
+        let mut list = right.to_vec();
+        let byte = &mut list[ENTRY * entry + at];
+        *byte = byte.wrapping_add(change);
+        lists.push(list);
+    };
+    put(places[0], SUPPORT_AT, 1);
+    put(places[1], SUPPORT_AT, 255);
+    put(places[2], 0, 1);
+    put(
+        places[3],
+        random.between(RECORDS_AT, ENTRY - 1),
+        1 + random.byte() % 255,
+    );
+    put(places[4], ENTRY - 1, 1);
+    if padding(places[0]) < ENTRY {
+        put(places[0], random.between(padding(places[0]), ENTRY - 1), 1);
+    }
+    lists
+}
+
+/// An entry is left out: the first, the last, any; all but the first; a byte of the last.
+fn without(random: &mut Random, right: &[u8]) -> Vec<Vec<u8>> {
+    let entries = right.len() / ENTRY;
+    let mut lists = vec![
+        right[..right.len() - 1].to_vec(),
+        right[..right.len() - random_length(random)].to_vec(),
+        right[..ENTRY].to_vec(),
+        [right, &right[right.len() - ENTRY..]].concat(),
+    ];
+    for entry in [0, entries - 1, random.below(entries)] {
+        let (front, rest) = right.split_at(ENTRY * entry);
+        lists.push([front, &rest[ENTRY..]].concat());
+    }
+    lists
+}
+
+/// Two entries are exchanged: the first two, the last two, any; the whole list is turned round; the last one stands in the place of another.
+fn exchanged(random: &mut Random, right: &[u8]) -> Vec<Vec<u8>> {
+    let entries: Vec<&[u8]> = right.chunks(ENTRY).collect();
+    let last = entries.len() - 1;
+    let mut orders = vec![entries.clone(); 5];
+    orders[0].swap(0, 1);
+    orders[1].swap(last - 1, last);
+    orders[2].swap(random.below(last), last);
+    orders[3].reverse();
+    orders[4][random.below(last)] = entries[last];
+    orders.iter().map(|entries| entries.concat()).collect()
+}

@@ -1,0 +1,80 @@
+//! The check's separate code by itself, held against plain comparing of bytes, which is what the request says.
+use super::*;
+use crate::catalogue::{self, Codes, Sheet};
+use crate::generate::{self, plain, Shape};
+use std::collections::BTreeSet;
+
+/// Surveys of drawings that have much in common.
+fn sheets(random: &mut Random) -> Vec<Sheet> {
+    let shape = Shape {
+        devices: (2, 5),
+        most_cables: 7,
+        kinds: 2,
+    };
+    let first = generate::drawing(random, shape);
+    let mut drawings = vec![first.clone()];
+    for _ in 0..random.below(4) {
+        drawings.push(generate::neighbour(random, &first));
+    }
+    let survey = generate::survey(random, &drawings);
+    catalogue::read_survey(&survey).expect("accepted")
+}
+
+#[test]
+fn right_is_equal_byte_for_byte() {
+    let random = &mut Random::new(42);
+    let mut seen = BTreeSet::new();
+    for _ in 0..300 {
+        let sheets = sheets(random);
+        let threshold = random.between(1, sheets.len() + 1);
+        let limit = random.between(1, 8);
+        let entries = Codes::default().catalogue(&sheets, threshold, limit);
+        let right = catalogue::bytes(&entries);
+        for list in spoiled(random, &right) {
+            let told = told(&list, &right);
+            seen.insert(told);
+            if list.len() % ENTRY == 0 {
+                assert_eq!(is_right(&list, &entries), list == right, "{told}");
+                assert_eq!(
+                    is_right(&list, &entries),
+                    [RIGHT, NONE_FREQUENT].contains(&told)
+                );
+            } else {
+                assert!(REFUSED.contains(&told));
+            }
+        }
+    }
+    let all = ANSWERS.iter().flat_map(|(_, told)| told.iter());
+    let all: BTreeSet<&str> = all.chain(REFUSED).copied().collect();
+    assert_eq!(seen, all);
+}
+
+/// D12, entry by entry.
+#[test]
+fn entries_that_are_read() {
+    let path = plain(&[(0, 1), (1, 2)]);
+    let entries = Codes::default().catalogue_of_drawings(&[path.clone(), path], 2, 4);
+    let right = catalogue::bytes(&entries);
+    let parts: Vec<Entry> = right.chunks(ENTRY).filter_map(read).collect();
+    assert_eq!(parts, entries);
+    for (at, value) in [(0, 0), (0, 9), (0, 2), (3, 2), (ENTRY - 1, 1)] {
+        let mut part = right[..ENTRY].to_vec();
+        part[at] = value;
+        assert_eq!(read(&part), None, "{at}");
+    }
+    // Any support can be read, and is wrong.
+    let mut other = right.clone();
+    other[SUPPORT_AT] = 255;
+    assert_eq!(read(&other[..ENTRY]).map(|entry| entry.support), Some(255));
+    assert!(is_right(&right, &entries) && !is_right(&other, &entries));
+    assert!(is_right(&[], &[]) && !is_right(&[], &entries));
+}
+
+/// The code of a lone device can be read; no catalogue has it.
+#[test]
+fn an_entry_of_a_lone_device() {
+    let mut part = vec![1, 1, 0, 0, 7, 0, 7];
+    part.resize(ENTRY, 0);
+    assert!(read(&part).is_some());
+    assert!(!is_right(&part, &[]));
+}

@@ -1,0 +1,295 @@
+//! Lists made elsewhere, request R-5: the right one, and lists that are wrong in one thing; lengths that are refused, and what is told before
+//! them; lists of other settings and of other surveys; lists without entries; the usual check.
+use super::checks::Asked;
+use super::notation::{code, drawing, sheet, survey};
+use super::List;
+use crate::catalogue::{self, ENTRY};
+use crate::cranes::OLD_RECORD;
+use crate::generate::plain;
+use crate::refused::Refused;
+
+const YES: &str = "yes";
+const NO: &str = "no";
+
+fn asked(survey: &[u8], threshold: u16, limit: u16) -> Asked<'_> {
+    Asked {
+        survey,
+        threshold,
+        limit,
+    }
+}
+
+impl List {
+    /// The list that a catalogue is.
+    fn right(&mut self, asked: &Asked) -> Vec<u8> {
+        catalogue::bytes(&self.entries(asked))
+    }
+}
+
+/// The 42 bytes of an entry: its support and its code.
+fn entry(support: u8, text: &str) -> Vec<u8> {
+    let code = code(text);
+    let mut entry = vec![(code.len() / 5) as u8, support];
+    entry.extend(code);
+    entry.resize(ENTRY, 0);
+    entry
+}
+
+/// The same but for one byte.
+fn changed(bytes: &[u8], at: usize, value: u8) -> Vec<u8> {
+    let mut changed = bytes.to_vec();
+    assert_ne!(changed[at], value);
+    changed[at] = value;
+    changed
+}
+
+fn d3() -> Vec<u8> {
+    drawing("111", "015 125")
+}
+
+fn d4() -> Vec<u8> {
+    drawing("111", "015 125 205")
+}
+
+fn d12() -> Vec<u8> {
+    survey(&[&d3(), &d4()])
+}
+
+/// The entries of D12 at s = 1 and L = 4.
+fn d12_entries() -> [Vec<u8>; 3] {
+    [(2, "01151"), (2, "01151 12151"), (1, "01151 12151 20151")]
+        .map(|(support, code)| entry(support, code))
+}
+
+/// D12's list with one thing changed.
+fn put_changed(list: &mut List) {
+    let survey = d12();
+    let asked = asked(&survey, 1, 4);
+    let [cable, path, triangle] = d12_entries();
+    let right = [&cable[..], &path, &triangle].concat();
+    assert_eq!(list.right(&asked), right);
+    list.put_check("list of D12", &asked, &right, YES);
+    for (name, wrong) in [
+        ("first support 1", changed(&right, 1, 1)),
+        ("last support 2", changed(&right, 85, 2)),
+        ("support 0", changed(&right, 43, 0)),
+        ("a cable less told", changed(&right, 84, 2)),
+        ("another kind", changed(&right, 46, 2)),
+        ("last byte not zero", changed(&right, 125, 1)),
+        ("byte 7 not zero", changed(&right, 7, 1)),
+        ("zeros throughout", vec![0; 126]),
+        (
+            "first two exchanged",
+            [&path[..], &cable, &triangle].concat(),
+        ),
+        (
+            "last two exchanged",
+            [&cable[..], &triangle, &path].concat(),
+        ),
+        (
+            "another code of D3",
+            [&cable[..], &entry(2, "01151 02151"), &triangle].concat(),
+        ),
+        ("last left out", [&cable[..], &path].concat()),
+        ("first left out", [&path[..], &triangle].concat()),
+        ("second left out", [&cable[..], &triangle].concat()),
+        ("no entry", vec![]),
+        ("last twice", [&right[..], &triangle].concat()),
+        ("first twice", [&cable[..], &right].concat()),
+        ("zeros behind", [&right[..], &[0; ENTRY]].concat()),
+        ("D1 behind", [&right[..], &entry(1, "01172")].concat()),
+        // D12 has ten connected sets of cables, so that no catalogue of it has eleven entries.
+        (
+            "more than any catalogue",
+            [right.clone(), triangle.repeat(8)].concat(),
+        ),
+    ] {
+        list.put_check(&format!("list of D12, {name}"), &asked, &wrong, NO);
+    }
+    for (name, wrong) in [
+        ("one byte more", [&right[..], &[0]].concat()),
+        ("one byte less", right[..125].to_vec()),
+        ("41 bytes", right[..41].to_vec()),
+        ("43 bytes", [&right[..ENTRY], &[2]].concat()),
+    ] {
+        list.put_refused_list(&format!("list of D12, {name}"), &asked, &wrong, 18);
+    }
+}
+
+/// A list is right for its own survey, threshold and size limit, and for others with the same catalogue.
+fn put_others(list: &mut List) {
+    let d12 = d12();
+    let of_all = d12_entries().concat();
+    let [of_two, of_one] = [2, 1].map(|entries| of_all[..entries * ENTRY].to_vec());
+    for (s, limit, given, wanted) in [
+        (1, 8, &of_all, YES),
+        (1, 2, &of_all, NO),
+        (2, 4, &of_all, NO),
+        (2, 4, &of_two, YES),
+        (1, 4, &of_two, NO),
+        (1, 2, &of_two, YES),
+        (3, 4, &of_two, NO),
+        (1, 1, &of_one, YES),
+        (1, 2, &of_one, NO),
+    ] {
+        let name = format!("list of {} bytes, s {s}, L {limit}", given.len());
+        list.put_check(&name, &asked(&d12, s, limit), given, wanted);
+    }
+    let d1 = drawing("21", "017");
+    list.put_check("D1", &asked(&d1, 1, 4), &entry(1, "01172"), YES);
+    list.put_check("D1, rubbish", &asked(&d1, 1, 4), &[77; ENTRY], NO);
+    list.put_check("D1, list of D12", &asked(&d1, 1, 4), &of_all, NO);
+    list.put_check("D4, list of D12", &asked(&d4(), 1, 4), &of_all, NO);
+}
+
+/// Of a list too, supports are numbers of cranes.
+fn put_cranes(list: &mut List) {
+    let drawings = [d3(), d4(), d4()];
+    for (cranes, s) in [
+        (&[7, 7][..], 1),
+        (&[7, 7], 2),
+        (&[0, 1, 0], 2),
+        (&[5, 5, 255], 2),
+    ] {
+        let sheets = drawings.iter().zip(cranes);
+        let survey: Vec<u8> = sheets.flat_map(|(d, &crane)| sheet(d, crane)).collect();
+        let each_its_own: Vec<&[u8]> = drawings[..cranes.len()].iter().map(|d| &d[..]).collect();
+        let by_drawings = super::notation::survey(&each_its_own);
+        let by_drawings = list.right(&asked(&by_drawings, s, 4));
+        let asked = asked(&survey, s, 4);
+        let right = list.right(&asked);
+        let name = format!("list of cranes {cranes:?}, s {s}");
+        list.put_check(&name, &asked, &right, YES);
+        list.put_check(&format!("{name}, by drawings"), &asked, &by_drawings, NO);
+    }
+}
+
+/// Nothing is frequent: a list without entries is right, and no other.
+fn put_empty(list: &mut List) {
+    let (d12, seven) = (d12(), drawing("7", ""));
+    for (name, asked) in [
+        ("nothing is frequent", asked(&d12, 3, 8)),
+        ("lone alone", asked(&seven, 1, 8)),
+    ] {
+        assert!(list.right(&asked).is_empty());
+        list.put_check(name, &asked, &[], YES);
+        list.put_check(&format!("{name}, zeros"), &asked, &[0; ENTRY], NO);
+        let code = entry(1, "00707");
+        list.put_check(&format!("{name}, a code"), &asked, &code, NO);
+        list.put_refused_list(name, &asked, &[0; ENTRY - 1], 18);
+    }
+    let among = survey(&[&seven, &drawing("11", "015")]);
+    let asked = asked(&among, 1, 4);
+    list.put_check("a cable among lone", &asked, &entry(1, "01151"), YES);
+    list.put_check("a cable among lone, none", &asked, &[], NO);
+    list.put_refused_list("a cable among lone", &asked, &[1, 1, 0], 18);
+}
+
+/// Entries of eight cables, behind whose records nothing is; as many drawings as there may be.
+fn put_largest(list: &mut List) {
+    let path = plain(&[0, 1, 2, 3, 4, 5, 6, 7].map(|v| (v, v + 1))).record();
+    let eight = asked(&path, 1, 8);
+    let right = list.right(&eight);
+    assert_eq!(right.len(), 8 * ENTRY);
+    list.put_check("path of 8 cables", &eight, &right, YES);
+    let last = changed(&right, 8 * ENTRY - 1, 2);
+    list.put_check("path of 8 cables, last byte", &eight, &last, NO);
+    let survey: Vec<u8> = (0..32).flat_map(|crane| sheet(&d3(), crane)).collect();
+    let right = [entry(32, "01151"), entry(32, "01151 12151")].concat();
+    list.put_check("thirty-two times D3", &asked(&survey, 32, 8), &right, YES);
+}
+
+/// At least two cranes, at most four cables.
+fn put_usual(list: &mut List) {
+    let d12 = d12();
+    let all = d12_entries().concat();
+    let (two, last) = (all[..2 * ENTRY].to_vec(), all[ENTRY..2 * ENTRY].to_vec());
+    let path = plain(&[0, 1, 2, 3, 4].map(|v| (v, v + 1))).record();
+    let paths = survey(&[&path, &path]);
+    let [three, four, five] = [3, 4, 5].map(|limit| list.right(&asked(&paths, 2, limit)));
+    let (d3, seven) = (d3(), drawing("7", ""));
+    let among = survey(&[&d3, &seven, &d3]);
+    for (name, survey, given, wanted) in [
+        ("D12", &d12, two.clone(), YES),
+        ("D12, s 1", &d12, all.clone(), NO),
+        ("D12, first", &d12, two[..ENTRY].to_vec(), NO),
+        ("D12, last", &d12, last.clone(), NO),
+        ("D12, none", &d12, vec![], NO),
+        ("D12, exchanged", &d12, [&last, &two[..ENTRY]].concat(), NO),
+        ("D12, support 1", &d12, changed(&two, 43, 1), NO),
+        ("D12, last byte", &d12, changed(&two, 83, 1), NO),
+        ("D12, another kind", &d12, changed(&two, 4, 2), NO),
+        ("D12, last twice", &d12, [&two[..], &last].concat(), NO),
+        ("D12, zeros", &d12, [&two[..], &[0; ENTRY]].concat(), NO),
+        ("D12, rubbish", &d12, vec![9; ENTRY], NO),
+        ("paths", &paths, four, YES),
+        ("paths, L 3", &paths, three, NO),
+        ("paths, L 5", &paths, five, NO),
+        ("D3", &d3, vec![], YES),
+        ("one crane", &d3.repeat(2), vec![], YES),
+        ("one crane, by drawings", &d3.repeat(2), two.clone(), NO),
+        ("lone", &seven, vec![], YES),
+        ("lone, zeros", &seven, vec![0; ENTRY], NO),
+        ("D3 among lone", &among, two.clone(), YES),
+        ("D3 among lone, none", &among, vec![], NO),
+    ] {
+        list.put_usual_check(&format!("usual list of {name}"), survey, &given, wanted);
+    }
+    for (name, survey, given) in [
+        ("D12, a byte more", &d12, [&two[..], &[0]].concat()),
+        ("D12, a byte less", &d12, two[..83].to_vec()),
+        ("lone, a byte", &seven, vec![0]),
+        ("D3 among lone, a byte", &among, vec![1]),
+    ] {
+        list.put_refused_usual_list(&format!("usual list of {name}"), survey, &given);
+    }
+}
+
+/// What is wrong with the settings and with the survey is told before the length of a list.
+fn put_refused(list: &mut List) {
+    let (d3, seven, d12) = (d3(), drawing("7", ""), d12());
+    for (name, s, limit, number) in [
+        ("s 0", 0, 4, 12),
+        ("s 33", 33, 4, 12),
+        ("s 0, L 9", 0, 9, 12),
+        ("L 0", 2, 0, 13),
+        ("L 9", 2, 9, 13),
+    ] {
+        let name = format!("list, {name}");
+        list.put_refused_list(&name, &asked(&d12[..1], s, limit), &[1], number);
+    }
+    for (name, survey, number) in [
+        ("no survey", &d3[..0], 14),
+        ("survey of 72 bytes", &d3[..OLD_RECORD], 1),
+        ("survey of 74 bytes", &d12[..74], 1),
+    ] {
+        list.put_refused_check(&format!("list, {name}"), survey, Refused::of(number));
+    }
+    for (name, record, number) in [
+        ("n 11", changed(&d3, 0, 11), 2),
+        ("m 21", changed(&d3, 1, 21), 3),
+        ("an end", changed(&d3, 16, 3), 4),
+        ("both ends", changed(&d3, 16, 1), 5),
+        ("a pair", drawing("111", "015 105"), 6),
+        ("an unused byte", changed(&d3, 71, 1), 7),
+        ("not connected", drawing("1111", "015 235"), 8),
+        ("n 1, m 1", changed(&seven, 1, 1), 3),
+        ("n 2, m 0", changed(&seven, 0, 2), 3),
+        ("lone, an unused byte", changed(&seven, 3, 1), 7),
+    ] {
+        let name = format!("list, {name}");
+        list.put_refused_check(&name, &record, Refused::of(number));
+        let behind = [&seven[..], &record].concat();
+        list.put_refused_check(&name, &behind, Refused { number, at: 1 });
+    }
+}
+
+pub fn put(list: &mut List) {
+    put_changed(list);
+    put_others(list);
+    put_cranes(list);
+    put_empty(list);
+    put_largest(list);
+    put_usual(list);
+    put_refused(list);
+}

@@ -305,8 +305,10 @@ module _ {survey labels rank alphabet : List ℕ} {g : Settings} {γ : List Rec}
               (Listed-by kinds-before kinds-order (Frequent-in kinds-before survey (g .threshold)) (g .limit) γ es) cs out₂) (sym split-next)
               (walked-stopped (Often-in survey (g .threshold)) (support-of survey) (g .limit) family γ (up-to k) next later x (a .more)
               (candidates-in kind γ alphabet (g .labels) (part (k + 1) top list))
-              (rises-back (rec-before-by kinds-before) (snoc (up-to k) next) (candidates-in kind γ alphabet (g .labels) (part (k + 1) top list)) rising-next)
-              (rises-apart (rec-before-by kinds-before) (snoc (up-to k) next) (candidates-in kind γ alphabet (g .labels) (part (k + 1) top list)) rising-next)
+              (rises-back (rec-before-by kinds-before) (snoc (up-to k) next)
+              (candidates-in kind γ alphabet (g .labels) (part (k + 1) top list)) rising-next)
+              (rises-apart (rec-before-by kinds-before) (snoc (up-to k) next)
+              (candidates-in kind γ alphabet (g .labels) (part (k + 1) top list)) rising-next)
               (subst (λ (c : List Rec). Stops (g .checking) (support-of survey)
               (Gives kinds-before kinds-order (Often-in survey (g .threshold)) (g .limit) c) (cs ++ x .more) out₂) t
               (u .told (cs ++ x .more) old (x .lists))))

@@ -1,4 +1,5 @@
--- Growing a pattern and walking its next cables: what both ask and what they leave. `out` is the page on which entries stand. Assumes nothing: these are definitions.
+-- Growing a pattern and walking its next cables: what both ask and what they leave. `out` is the page on which entries stand. Assumes
+-- nothing: these are definitions.
 use mathlib.Core.Path.{_≡_}
 use mathlib.Core.Bool.{Bool, true, false}
 use mathlib.Core.List.{List, [], _∷_, map}

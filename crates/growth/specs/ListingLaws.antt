@@ -109,7 +109,8 @@ module _ (Wanted : Drawing → Type 0) (figure : Drawing → ℕ) (l : ℕ) wher
       record { more = []; which = listed-none kinds-before kinds-order (Listable kinds-before Wanted) l γ; lists = lists-same t; room = room }
 
   -- ONE NEXT RECORD MORE, e after es
-  module _ (family : Family kinds-before Wanted) (γ es : List Rec) (e : Rec) (later : (x : Rec) → Mem x es → rec-before-by kinds-before x e ≡ true) where
+  module _ (family : Family kinds-before Wanted) (γ es : List Rec) (e : Rec)
+      (later : (x : Rec) → Mem x es → rec-before-by kinds-before x e ≡ true) where
     module _ {cs : List (List Rec)} {old out : List ℕ} {count : ℕ}
         (x : Lists-more figure (Listed-by kinds-before kinds-order (Listable kinds-before Wanted) l γ es) cs old out count) where
       -- it gives something

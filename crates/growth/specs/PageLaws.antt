@@ -64,7 +64,8 @@ stands-further true bs more on h = λ q. h (front-of bs more on q)
 module _ (figure : Drawing → ℕ) where
   bytes-behind : (cs more : List (List Rec))
       → all-bytes (map (entry-for figure) (cs ++ more)) ≡ all-bytes (map (entry-for figure) cs) ++ all-bytes (map (entry-for figure) more)
-  bytes-behind cs more = ap all-bytes (map-append (entry-for figure) cs more) ∙ all-bytes-append (map (entry-for figure) cs) (map (entry-for figure) more)
+  bytes-behind cs more =
+      ap all-bytes (map-append (entry-for figure) cs more) ∙ all-bytes-append (map (entry-for figure) cs) (map (entry-for figure) more)
 
   pub codes-further :
       (checking : Bool) (cs more : List (List Rec)) (on : List ℕ) → Cannot-stand checking (all-bytes (map (entry-for figure) cs)) on
@@ -87,7 +88,8 @@ module _ (figure : Drawing → ℕ) where
     snoc-small small c m = ⊎-elim (small c) (λ k. subst (λ (x : List Rec). length x ≤ 8) (mem-one k) low) (mem-cases cs m)
 
     -- AN ENTRY MORE behind those that are listed
-    pub lists-next : (old out now : List ℕ) (count : ℕ) → Lists figure cs old out count → now ≡ put-record 42 count (entry-bytes (entry-for figure γ)) out
+    pub lists-next :
+        (old out now : List ℕ) (count : ℕ) → Lists figure cs old out count → now ≡ put-record 42 count (entry-bytes (entry-for figure γ)) out
         → Lists figure (snoc cs γ) old now (count + 1)
     lists-next old out now count t is =
         record {

@@ -46,7 +46,8 @@ module _ {bs : List ℕ} {s l : ℕ} (a : Accepted-settings bs s l) where
 
 -- THE OUTCOME OF THE CALL
 module _ (bs : List ℕ) (s l : ℕ) (list : List ℕ) where
-  refused-list : (r : ListChecked) (f : surveys.Refusal) → 0 < f .number → check-refusal bs s l list ≡ f → list-refusal r ≡ f → Check-says bs s l list r
+  refused-list :
+      (r : ListChecked) (f : surveys.Refusal) → 0 < f .number → check-refusal bs s l list ≡ f → list-refusal r ≡ f → Check-says bs s l list r
   refused-list r f h e w = go (check-refusal bs s l list .number) (rw e h)
     where
       go : (n : ℕ) → 0 < n → Check-as n (check-refusal bs s l list) bs s l list r

@@ -38,7 +38,8 @@ taken-as checking {γ} {cell} {limit} {count} {m} {out} {z} {v} w e size t =
 pub taken-goes-on :
     {checking : Bool} {γ : List Rec} {cell limit count : ℕ} {out : List ℕ} {over stopped : Bool} {more : ℕ} {z : List ℕ}
     → Taken-on checking γ cell limit count out over stopped more z → over ≡ false → Entry-goes-on γ cell limit count out more z
-taken-goes-on {checking} {γ} {cell} {limit} {count} {out} {over} {stopped} {more} {z} t o = go (t .taken) (t .told) (sym (t .over-is) ∙ o) (t .count-is)
+taken-goes-on {checking} {γ} {cell} {limit} {count} {out} {over} {stopped} {more} {z} t o =
+    go (t .taken) (t .told) (sym (t .over-is) ∙ o) (t .count-is)
   where
     go : (v : Taken) → Candidate-taken checking γ cell count out v z → over-of (length γ) limit v ≡ false → more ≡ count-of count v
         → Entry-goes-on γ cell limit count out more z

@@ -52,7 +52,8 @@ returns-2 c =
     let s = e .before .before in
     let a = s .args in
     entry-held _ (a .k) _ (told-size (a .code .now) (a .head .cables) (a .head .support) (s .pre .0) (s .pre .2))
-    (omega (arith, e .if1 .left, s .pre .1)) (search needs) _ (rw (c .before .before .before .before .write-entry .ensures) at (c .same-bytes .ensures))
+    (omega (arith, e .if1 .left, s .pre .1)) (search needs) _
+    (rw (c .before .before .before .before .write-entry .ensures) at (c .same-bytes .ensures))
 
 pub entry-stands-spec : {M : Type 1} → statement M
 entry-stands-spec =

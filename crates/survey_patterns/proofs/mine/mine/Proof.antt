@@ -18,15 +18,15 @@ use Rattle.survey_patterns.proofs.mine.mine_kind.Reads as mine-kind-rea
 use Rattle.label_ranks.proofs.kinds.kinds_of.Reads as kinds-of-reads
 
 abbrev Inv-loop : tie.InvT-loop
-Inv-loop survey labels rank alphabet settings cells₀ seen₀ list₀ kept₀ ends₀ given output₀ written₀ occurs kind₀ cells seen list kept ends output written
-    kind =
+Inv-loop survey labels rank alphabet settings cells₀ seen₀ list₀ kept₀ ends₀ given output₀ written₀ occurs kind₀ cells seen list kept ends output
+    written kind =
     Occurs survey occurs
     × Kinds-done survey settings (page (settings .checking) given output₀) kind cells seen list (page (settings .checking) given output) written
     × Lists-sized kept ends × (length output ≡ length output₀)
 
 abbrev μ-loop : tie.MeasureT-loop
-μ-loop survey labels rank alphabet settings cells₀ seen₀ list₀ kept₀ ends₀ given output₀ written₀ occurs kind₀ cells seen list kept ends output written
-    kind =
+μ-loop survey labels rank alphabet settings cells₀ seen₀ list₀ kept₀ ends₀ given output₀ written₀ occurs kind₀ cells seen list kept ends output
+    written kind =
     256 - kind
 
 kinds-of-requires : tie.Need-kinds-of-requires Inv-loop μ-loop
@@ -96,7 +96,12 @@ loop-again c =
       w .7 .ensures .sized,
       w .7 .kept .1 .1 .1 .1 .1 .1 .1 .1 .1 .1 .1 .1 .0 ∙ l .inv .3,
     ))
-    (λ w. rw (w .1, w .2, w .3, w .4, w .5, w .6, w .7) (l .inv .0, mine-skips (s .pre .0) h (l .inv .0) (w .0 .left) (l .inv .1), l .inv .2, l .inv .3))
+    (λ w. rw (w .1, w .2, w .3, w .4, w .5, w .6, w .7) (
+      l .inv .0,
+      mine-skips (s .pre .0) h (l .inv .0) (w .0 .left) (l .inv .1),
+      l .inv .2,
+      l .inv .3,
+    ))
     (c .if1 .came)
 
 same-length-2 : tie.Need-same-length-2 Inv-loop μ-loop

@@ -35,7 +35,8 @@ returns-2 c =
     let e = c .before .before .before .before .before .before in
     let h = c .before .before .before .next-entry in
     let n = c .before .before .before .before .before in
-    entry-stopped (e .before .before .before .before .args .checking) (h .result) (e .before .least-grown .ensures .holds (not-false _ (e .if1 .left)))
+    entry-stopped (e .before .before .before .before .args .checking) (h .result)
+    (e .before .least-grown .ensures .holds (not-false _ (e .if1 .left)))
     (not-true _ (c .if2 .taken)) (rw (n .new .ensures) at (h .ensures))
 
 same-length-2 : tie.Need-same-length-2

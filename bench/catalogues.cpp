@@ -1,6 +1,6 @@
 // The catalogue of the library beside that of the baseline: same surveys, same run, entries compared byte for byte. First each of the 32 drawings is
 // a crane of its own, and the baseline counts drawings; then some of the same drawings are the sheets of 8 cranes, four each, and it counts cranes.
-// Last, the check of a list beside the catalogue that it is held against.
+// Last, the check of a list beside the catalogue that it is held against, the usual one and the one of before.
 #include "baseline.hpp"
 #include "clock.hpp"
 #include "holvreiz.h"
@@ -12,7 +12,8 @@ using bench::Bytes;
 
 struct Setting { uint32_t threshold, limit; };
 
-constexpr Setting SETTINGS[] = {{2, 4}, {1, 4}, {1, 6}, {2, 6}, {2, 8}};
+constexpr Setting USUAL = {2, 6}, FORMER = {2, 4};
+constexpr Setting SETTINGS[] = {FORMER, {1, 4}, {1, 6}, USUAL, {2, 8}};
 constexpr int KINDS[] = {1, 2, 4, 10};
 constexpr unsigned SEEDS[] = {7, 8, 9};
 constexpr uint8_t LENT = 165;
@@ -70,7 +71,7 @@ struct Table {
     }
 };
 
-constexpr size_t MOST_CHECKED = 50000;
+constexpr size_t MOST_CHECKED = 60000;
 
 // Of a list: right, wrong in its last entry, wrong in its first; and of no length that a list has, where all there is is the survey's check.
 struct Checked {
@@ -115,7 +116,7 @@ static int check_rows() {
     printf("| kinds | s, L | entries | catalogue ms | right list ms | wrong in its last entry ms | wrong in its first entry ms | refused 18 ms |\n");
     printf("|---|---|---|---|---|---|---|---|\n");
     for (int kinds : KINDS)
-        for (Setting setting : {SETTINGS[0], SETTINGS[1]}) {
+        for (Setting setting : {USUAL, FORMER}) {
             Checked c[3];
             for (int i = 0; i < 3; i++) {
                 c[i] = measure_checks(kinds, setting, SEEDS[i]);

@@ -15,8 +15,8 @@
  * HOLVREIZ_OUTPUT_LENGTH of a catalogue or a book leaves the whole lent output zero. Lent bytes past an answer keep their content.
  * No count reaches 2^32: a catalogue has at most 8,446,368 entries.
  *
- * STACK: holvreiz_catalogue, holvreiz_check_list and holvreiz_check_usual need about 1.74 MB; the others, holvreiz_book among them, need
- * less than 32 KB. A main thread has 8 MB as a rule; a thread that calls one of the three should have 4 MB
+ * STACK: holvreiz_catalogue, holvreiz_check_list, holvreiz_check_usual and holvreiz_check_four need about 1.74 MB; the others, holvreiz_book
+ * among them, need less than 32 KB. A main thread has 8 MB as a rule; a thread that calls one of the four should have 4 MB
  * (pthread_attr_setstacksize). There is no heap.
  */
 #ifndef HOLVREIZ_H
@@ -110,7 +110,8 @@ uint64_t holvreiz_same(const uint8_t *first, size_t first_length, const uint8_t 
 
 /* Writes the catalogue of a survey: an entry for each pattern of 1 to `limit` cables (1 to 8) that drawings of at least `threshold`
  * different cranes (1 to 32) contain, codes rising. Sheets of one crane count once. Needs 42 bytes of output for each entry; how many there are
- * the call alone can tell: after HOLVREIZ_OUTPUT_LENGTH lend more and call again. 65,520 bytes do for most surveys at 2 and 4. Count: entries. */
+ * the call alone can tell: after HOLVREIZ_OUTPUT_LENGTH lend more and call again. The program `catalogue` lends 65,520 bytes, 1,560 entries.
+ * Count: entries. */
 uint64_t holvreiz_catalogue(const uint8_t *survey, size_t survey_length, uint32_t threshold, uint32_t limit,
                             uint8_t *output, size_t output_length);
 
@@ -121,8 +122,11 @@ uint64_t holvreiz_catalogue(const uint8_t *survey, size_t survey_length, uint32_
 uint64_t holvreiz_check_list(const uint8_t *survey, size_t survey_length, uint32_t threshold, uint32_t limit,
                              const uint8_t *list, size_t list_length);
 
-/* The same of the usual catalogue: threshold 2, limit 4. Count: 1 yes, 0 no. */
+/* The same of the usual catalogue: threshold 2, limit 6. Count: 1 yes, 0 no. */
 uint64_t holvreiz_check_usual(const uint8_t *survey, size_t survey_length, const uint8_t *list, size_t list_length);
+
+/* The same of the catalogue that was usual before, for lists that were sent then: threshold 2, limit 4. Count: 1 yes, 0 no. */
+uint64_t holvreiz_check_four(const uint8_t *survey, size_t survey_length, const uint8_t *list, size_t list_length);
 
 /* Writes the book of all small patterns: an entry with support 0 for each connected pattern of 1 to `limit` cables (1 to 3) with device
  * kinds below `a` and cable kinds below `b` (1 to 3 each), codes rising. Needs 42 bytes of output for each entry; docs/BOOK.md has their

@@ -88,12 +88,17 @@ static void maps(void) {
     EXPECT(is(holvreiz_same(path, 0, triangle, DRAWING), HOLVREIZ_DRAWING_LENGTH, 0, 0));
 }
 
-static void catalogues(void) {
-    uint8_t survey[3 * DRAWING];
+/* The path on crane 0 and the triangle on crane 1; behind them the drawing that leaves a device apart. */
+static void fill_survey(uint8_t *survey) {
     memcpy(survey, path, DRAWING);
     memcpy(survey + DRAWING, triangle, DRAWING);
     memcpy(survey + 2 * DRAWING, apart, DRAWING);
     survey[DRAWING + CRANE_AT] = 1;
+}
+
+static void catalogues(void) {
+    uint8_t survey[3 * DRAWING];
+    fill_survey(survey);
 
     lend();
     EXPECT(is(holvreiz_catalogue(survey, 2 * DRAWING, 1, 4, output, LENT), HOLVREIZ_ANSWERED, 3, 0));
@@ -143,10 +148,7 @@ static void cranes(void) {
 static void lists(void) {
     enum { ENTRY = HOLVREIZ_ENTRY_BYTES, THREE = 3 * HOLVREIZ_ENTRY_BYTES };
     uint8_t survey[3 * DRAWING], list[THREE + ENTRY], before[THREE + ENTRY], kept[3 * DRAWING];
-    memcpy(survey, path, DRAWING);
-    memcpy(survey + DRAWING, triangle, DRAWING);
-    memcpy(survey + 2 * DRAWING, apart, DRAWING);
-    survey[DRAWING + CRANE_AT] = 1;
+    fill_survey(survey);
     memset(list, 0, sizeof list);
     EXPECT(is(holvreiz_catalogue(survey, 2 * DRAWING, 1, 4, list, THREE), HOLVREIZ_ANSWERED, 3, 0));
     memcpy(kept, survey, sizeof survey);
@@ -160,19 +162,13 @@ static void lists(void) {
     EXPECT(is(holvreiz_check_list(survey, 2 * DRAWING, 2, 4, list, THREE), HOLVREIZ_ANSWERED, 0, 0));
     EXPECT(is(holvreiz_check_list(survey, 2 * DRAWING, 2, 4, list, 2 * ENTRY), HOLVREIZ_ANSWERED, 1, 0));
     EXPECT(is(holvreiz_check_list(survey, 2 * DRAWING, 3, 4, list, 0), HOLVREIZ_ANSWERED, 1, 0));
-    EXPECT(is(holvreiz_check_usual(survey, 2 * DRAWING, list, 2 * ENTRY), HOLVREIZ_ANSWERED, 1, 0));
-    EXPECT(is(holvreiz_check_usual(survey, 2 * DRAWING, list, THREE), HOLVREIZ_ANSWERED, 0, 0));
-    EXPECT(is(holvreiz_check_usual(survey, DRAWING, list, 0), HOLVREIZ_ANSWERED, 1, 0));
 
     EXPECT(is(holvreiz_check_list(survey, 2 * DRAWING, 1, 4, list, THREE - 1), HOLVREIZ_LIST_LENGTH, 0, 0));
     EXPECT(is(holvreiz_check_list(survey, 2 * DRAWING, 1, 4, list, THREE + 1), HOLVREIZ_LIST_LENGTH, 0, 0));
-    EXPECT(is(holvreiz_check_usual(survey, 2 * DRAWING, list, 1), HOLVREIZ_LIST_LENGTH, 0, 0));
     EXPECT(is(holvreiz_check_list(survey, 1, 33, 9, list, 1), HOLVREIZ_THRESHOLD, 0, 0));
     EXPECT(is(holvreiz_check_list(survey, 1, 32, 9, list, 1), HOLVREIZ_SIZE_LIMIT, 0, 0));
     EXPECT(is(holvreiz_check_list(survey, 1, 1, 4, list, 1), HOLVREIZ_DRAWING_LENGTH, 0, 0));
-    EXPECT(is(holvreiz_check_usual(survey, 0, list, 1), HOLVREIZ_SURVEY_LENGTH, 0, 0));
     EXPECT(is(holvreiz_check_list(survey, 3 * DRAWING, 1, 4, list, 1), HOLVREIZ_NOT_CONNECTED, 0, 2));
-    EXPECT(is(holvreiz_check_usual(survey, 3 * DRAWING, list, 1), HOLVREIZ_NOT_CONNECTED, 0, 2));
     EXPECT(memcmp(survey, kept, sizeof survey) == 0 && memcmp(list, before, sizeof list) == 0);
 
     list[ENTRY + 1] = 1;
@@ -184,18 +180,48 @@ static void lists(void) {
     EXPECT(is(holvreiz_check_list(survey, 2 * DRAWING, 1, 4, list, THREE), HOLVREIZ_ANSWERED, 0, 0));
 }
 
-/* A path of six devices on two cranes has an entry for each number of cables from 1 to 5; its usual list ends with four. */
-static void usual_lists(void) {
+/* The calls that are given no settings, of the same survey: no pattern has over three cables, so that both have the two entries for s = 2.
+ * What is given stays as it was. */
+static void lists_without_settings(void) {
     enum { ENTRY = HOLVREIZ_ENTRY_BYTES };
-    static const uint8_t long_path[DRAWING] = {6, 5, 1, 1, 1, 1, 1, 1, 0, 0, 0, 0, 0, 1, 5, 1, 2, 5, 2, 3, 5, 3, 4, 5, 4, 5, 5};
-    uint8_t survey[2 * DRAWING], list[5 * ENTRY];
+    uint8_t survey[3 * DRAWING], list[3 * ENTRY], before[3 * ENTRY], kept[3 * DRAWING];
+    fill_survey(survey);
+    EXPECT(is(holvreiz_catalogue(survey, 2 * DRAWING, 1, 4, list, sizeof list), HOLVREIZ_ANSWERED, 3, 0));
+    memcpy(kept, survey, sizeof survey);
+    memcpy(before, list, sizeof list);
+
+    EXPECT(is(holvreiz_check_usual(survey, 2 * DRAWING, list, 2 * ENTRY), HOLVREIZ_ANSWERED, 1, 0));
+    EXPECT(is(holvreiz_check_usual(survey, 2 * DRAWING, list, 3 * ENTRY), HOLVREIZ_ANSWERED, 0, 0));
+    EXPECT(is(holvreiz_check_usual(survey, DRAWING, list, 0), HOLVREIZ_ANSWERED, 1, 0));
+    EXPECT(is(holvreiz_check_usual(survey, 2 * DRAWING, list, 1), HOLVREIZ_LIST_LENGTH, 0, 0));
+    EXPECT(is(holvreiz_check_usual(survey, 1, list, 1), HOLVREIZ_DRAWING_LENGTH, 0, 0));
+    EXPECT(is(holvreiz_check_usual(survey, 0, list, 1), HOLVREIZ_SURVEY_LENGTH, 0, 0));
+    EXPECT(is(holvreiz_check_usual(survey, 3 * DRAWING, list, 1), HOLVREIZ_NOT_CONNECTED, 0, 2));
+
+    EXPECT(is(holvreiz_check_four(survey, 2 * DRAWING, list, 2 * ENTRY), HOLVREIZ_ANSWERED, 1, 0));
+    EXPECT(is(holvreiz_check_four(survey, 2 * DRAWING, list, 3 * ENTRY), HOLVREIZ_ANSWERED, 0, 0));
+    EXPECT(is(holvreiz_check_four(survey, DRAWING, list, 0), HOLVREIZ_ANSWERED, 1, 0));
+    EXPECT(is(holvreiz_check_four(survey, 2 * DRAWING, list, 1), HOLVREIZ_LIST_LENGTH, 0, 0));
+    EXPECT(is(holvreiz_check_four(survey, 1, list, 1), HOLVREIZ_DRAWING_LENGTH, 0, 0));
+    EXPECT(is(holvreiz_check_four(survey, 0, list, 1), HOLVREIZ_SURVEY_LENGTH, 0, 0));
+    EXPECT(is(holvreiz_check_four(survey, 3 * DRAWING, list, 1), HOLVREIZ_NOT_CONNECTED, 0, 2));
+    EXPECT(memcmp(survey, kept, sizeof survey) == 0 && memcmp(list, before, sizeof list) == 0);
+}
+
+/* A path of eight devices on two cranes has an entry for each number of cables from 1 to 7; its usual list ends with six, the one of before with
+ * four. */
+static void usual_and_former_lists(void) {
+    enum { ENTRY = HOLVREIZ_ENTRY_BYTES };
+    static const uint8_t long_path[DRAWING] = {8, 7, 1, 1, 1, 1, 1, 1, 1, 1, 0, 0, 0, 1, 5, 1, 2, 5, 2, 3, 5, 3, 4, 5, 4, 5, 5, 5, 6, 5, 6, 7, 5};
+    uint8_t survey[2 * DRAWING], list[7 * ENTRY];
     memcpy(survey, long_path, DRAWING);
     memcpy(survey + DRAWING, long_path, DRAWING);
     survey[CRANE_AT] = 1;
-    EXPECT(is(holvreiz_catalogue(survey, 2 * DRAWING, 2, 5, list, sizeof list), HOLVREIZ_ANSWERED, 5, 0));
-    for (uint32_t entries = 0; entries <= 5; entries++) {
-        EXPECT(is(holvreiz_check_usual(survey, 2 * DRAWING, list, entries * ENTRY), HOLVREIZ_ANSWERED, entries == 4, 0));
-        EXPECT(is(holvreiz_check_list(survey, 2 * DRAWING, 2, 5, list, entries * ENTRY), HOLVREIZ_ANSWERED, entries == 5, 0));
+    EXPECT(is(holvreiz_catalogue(survey, 2 * DRAWING, 2, 7, list, sizeof list), HOLVREIZ_ANSWERED, 7, 0));
+    for (uint32_t entries = 0; entries <= 7; entries++) {
+        EXPECT(is(holvreiz_check_usual(survey, 2 * DRAWING, list, entries * ENTRY), HOLVREIZ_ANSWERED, entries == 6, 0));
+        EXPECT(is(holvreiz_check_four(survey, 2 * DRAWING, list, entries * ENTRY), HOLVREIZ_ANSWERED, entries == 4, 0));
+        EXPECT(is(holvreiz_check_list(survey, 2 * DRAWING, 2, 7, list, entries * ENTRY), HOLVREIZ_ANSWERED, entries == 7, 0));
     }
 }
 
@@ -276,7 +302,8 @@ int main(void) {
     catalogues();
     cranes();
     lists();
-    usual_lists();
+    lists_without_settings();
+    usual_and_former_lists();
     lone();
     books();
     return failures != 0;

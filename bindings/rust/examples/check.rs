@@ -1,8 +1,9 @@
-//! Checks a list that was made elsewhere: `cargo run --example check -- SURVEY LIST [S L]`.
+//! Checks a list that was made elsewhere: `cargo run --example check -- SURVEY LIST [S L | four]`.
 //!
-//! Prints `yes` if the file LIST is, byte for byte, the catalogue of the file SURVEY with threshold S and size limit L, the usual 2 and 4 where none
-//! are given; `no` if it is not; or the refusal, as in `refused 18: the length of a list is no multiple of 42`. The exit status is 0, 1 or 2, and
-//! 3 where nothing could be asked. From the folder of this crate:
+//! Prints `yes` if the file LIST is, byte for byte, the catalogue of the file SURVEY with threshold S and size limit L, the usual 2 and 6 where none
+//! are given; `no` if it is not; or the refusal, as in `refused 18: the length of a list is no multiple of 42`. The word `four` is for a
+//! list that was sent when at most four cables were usual. The exit status is 0, 1 or 2, and 3 where nothing could be asked. From the folder of
+//! this crate:
 //!
 //!     cargo run --example check -- ../../examples/cranes.survey ../../examples/cranes.list
 use holvreiz::SurveyRefusal;
@@ -10,38 +11,58 @@ use std::fs;
 use std::io;
 use std::process::ExitCode;
 
-/// What is asked for: two files, and a threshold with a size limit if they are given.
+/// The settings of the catalogue that a list is held against.
+enum Settings {
+    Usual,
+    Four,
+    Given { threshold: u32, limit: u32 },
+}
+
+/// What is asked for: two files, and the settings.
 struct Asked {
     survey: String,
     list: String,
-    settings: Option<(u32, u32)>,
+    settings: Settings,
+}
+
+fn settings(words: &[String]) -> Option<Settings> {
+    Some(match words {
+        [] => Settings::Usual,
+        [word] if word == "four" => Settings::Four,
+        [s, limit] => Settings::Given {
+            threshold: s.parse().ok()?,
+            limit: limit.parse().ok()?,
+        },
+        _ => return None,
+    })
 }
 
 fn asked(words: &[String]) -> Option<Asked> {
-    let (survey, list, settings) = match words {
-        [survey, list] => (survey, list, None),
-        [survey, list, s, limit] => (survey, list, Some((s.parse().ok()?, limit.parse().ok()?))),
-        _ => return None,
+    let [survey, list, rest @ ..] = words else {
+        return None;
     };
     Some(Asked {
         survey: survey.clone(),
         list: list.clone(),
-        settings,
+        settings: settings(rest)?,
     })
 }
 
 fn check(asked: &Asked) -> io::Result<Result<bool, SurveyRefusal>> {
     let (survey, list) = (fs::read(&asked.survey)?, fs::read(&asked.list)?);
     Ok(match asked.settings {
-        None => holvreiz::check_usual(&survey, &list),
-        Some((threshold, limit)) => holvreiz::check_list(&survey, threshold, limit, &list),
+        Settings::Usual => holvreiz::check_usual(&survey, &list),
+        Settings::Four => holvreiz::check_four(&survey, &list),
+        Settings::Given { threshold, limit } => {
+            holvreiz::check_list(&survey, threshold, limit, &list)
+        }
     })
 }
 
 fn main() -> ExitCode {
     let words: Vec<String> = std::env::args().skip(1).collect();
     let Some(asked) = asked(&words) else {
-        eprintln!("check SURVEY LIST [S L]");
+        eprintln!("check SURVEY LIST [S L | four]");
         return ExitCode::from(3);
     };
     let (text, status) = match check(&asked) {

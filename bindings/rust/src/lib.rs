@@ -20,7 +20,7 @@
 //! ```
 //!
 //! **Stack.** There is no heap and no state, so that calls from several threads do not disturb each other. [`catalogue`],
-//! [`check_list`] and [`check_usual`] need about 1.74 MB of stack: the main thread has 8 MB as a rule and a thread of
+//! [`check_list`], [`check_usual`] and [`check_four`] need about 1.74 MB of stack: the main thread has 8 MB as a rule and a thread of
 //! `std::thread` 2 MB; one made with `std::thread::Builder::stack_size` should have 4 MB or more. The other calls, [`book`] among them, need
 //! less than 32 KB.
 #![warn(missing_docs)]
@@ -265,9 +265,8 @@ pub fn same(first: &[u8], second: &[u8]) -> Result<bool, Refusal> {
 ///
 /// There is an entry for each pattern of 1 to `limit` cables that drawings of at least `threshold` different cranes contain; codes
 /// rise. Sheets of one crane count once. Where the entries don't fit, the whole output is zero and the refusal is
-/// [`Refusal::OutputLength`]. How many there are the call alone can tell: lend more and call again. 65,520 bytes, 1,560 entries, do for
-/// most surveys at 2 and 4; no survey has more than 8,446,368 entries. A catalogue needs about 1.74 MB of stack (see the crate's first
-/// page).
+/// [`Refusal::OutputLength`]. How many there are the call alone can tell: lend more and call again. The program `catalogue` lends 65,520
+/// bytes, 1,560 entries; no survey has more than 8,446,368 entries. A catalogue needs about 1.74 MB of stack (see the crate's first page).
 pub fn catalogue(
     survey: &[u8],
     threshold: u32,
@@ -320,9 +319,15 @@ pub fn check_list(
     Ok(of_survey(raw::check_list(survey, threshold, limit, list))? == 1)
 }
 
-/// [`check_list`] for the usual catalogue: patterns of at most 4 cables that drawings of at least 2 cranes contain.
+/// [`check_list`] for the usual catalogue: patterns of at most 6 cables that drawings of at least 2 cranes contain.
 pub fn check_usual(survey: &[u8], list: &[u8]) -> Result<bool, SurveyRefusal> {
     Ok(of_survey(raw::check_usual(survey, list))? == 1)
+}
+
+/// [`check_list`] for the catalogue that was usual before, for lists that were sent then: patterns of at most 4 cables that drawings of at
+/// least 2 cranes contain.
+pub fn check_four(survey: &[u8], list: &[u8]) -> Result<bool, SurveyRefusal> {
+    Ok(of_survey(raw::check_four(survey, list))? == 1)
 }
 
 /// Writes the book of all small patterns into `output`, [`ENTRY_BYTES`] for each entry, and gives the number of entries.

@@ -57,6 +57,12 @@ mod linked {
             list: *const u8,
             list_length: usize,
         ) -> u64;
+        pub fn holvreiz_check_four(
+            survey: *const u8,
+            survey_length: usize,
+            list: *const u8,
+            list_length: usize,
+        ) -> u64;
         pub fn holvreiz_book(a: u32, b: u32, limit: u32, output: *mut u8, length: usize) -> u64;
     }
 }
@@ -143,6 +149,11 @@ pub fn check_usual(survey: &[u8], list: &[u8]) -> u64 {
     unsafe {
         linked::holvreiz_check_usual(survey.as_ptr(), survey.len(), list.as_ptr(), list.len())
     }
+}
+
+/// Whether a list is the catalogue of a survey that was usual before. Count: 1 yes, 0 no.
+pub fn check_four(survey: &[u8], list: &[u8]) -> u64 {
+    unsafe { linked::holvreiz_check_four(survey.as_ptr(), survey.len(), list.as_ptr(), list.len()) }
 }
 
 /// The book of all small patterns. Count: entries.

@@ -172,8 +172,8 @@ fn cranes() {
         let entries = output.chunks(holvreiz::ENTRY_BYTES);
         assert!(entries.map(|entry| entry[1]).eq(supports));
         let frequent = supports.iter().filter(|&&support| support >= 2).count();
-        let usual = holvreiz::catalogue(&survey, 2, 4, &mut output);
-        assert_eq!(usual, Ok(frequent));
+        let of_two = holvreiz::catalogue(&survey, 2, 4, &mut output);
+        assert_eq!(of_two, Ok(frequent));
     }
 
     let elsewhere = of_crane(triangle, 255);
@@ -198,6 +198,10 @@ fn cranes() {
         Err(Refusal::DrawingLength)
     );
 }
+
+/// The checks that are given no settings.
+const SHORTER: [fn(&[u8], &[u8]) -> Result<bool, holvreiz::SurveyRefusal>; 2] =
+    [holvreiz::check_usual, holvreiz::check_four];
 
 /// The list of the path and the triangle as two cranes: right, wrong and refused.
 #[test]
@@ -224,24 +228,30 @@ fn lists_made_elsewhere() {
     assert_eq!(check(3, 4, &[]), Ok(true));
     assert_eq!(check(3, 4, two), Ok(false));
 
-    assert_eq!(holvreiz::check_usual(&survey, two), Ok(true));
-    assert_eq!(holvreiz::check_usual(&survey, &list), Ok(false));
-    assert_eq!(holvreiz::check_usual(&survey, &[]), Ok(false));
     let alone = &survey[..holvreiz::DRAWING_BYTES];
-    assert_eq!(holvreiz::check_usual(alone, &[]), Ok(true));
+    for check in SHORTER {
+        assert_eq!(check(&survey, two), Ok(true));
+        assert_eq!(check(&survey, &list), Ok(false));
+        assert_eq!(check(&survey, &support[..two.len()]), Ok(false));
+        assert_eq!(check(&survey, &[]), Ok(false));
+        assert_eq!(check(alone, &[]), Ok(true));
+    }
 }
 
-/// A path of six devices on two cranes has an entry for each number of cables from 1 to 5; its usual list ends with four.
+/// A path of eight devices on two cranes has an entry for each number of cables from 1 to 7; its usual list ends with six, the one of before with
+/// four.
 #[test]
-fn usual_lists() {
-    let path = plain(6, &[[0, 1], [1, 2], [2, 3], [3, 4], [4, 5]]);
+fn usual_and_former_lists() {
+    let pairs: Vec<[u8; 2]> = (0..7).map(|device| [device, device + 1]).collect();
+    let path = plain(8, &pairs);
     let survey = [path, of_crane(path, 1)].concat();
-    let mut list = [9; 5 * holvreiz::ENTRY_BYTES];
-    assert_eq!(holvreiz::catalogue(&survey, 2, 5, &mut list), Ok(5));
-    for entries in 0..=5 {
+    let mut list = [9; 7 * holvreiz::ENTRY_BYTES];
+    assert_eq!(holvreiz::catalogue(&survey, 2, 7, &mut list), Ok(7));
+    for entries in 0..=7 {
         let list = &list[..entries * holvreiz::ENTRY_BYTES];
-        assert_eq!(holvreiz::check_usual(&survey, list), Ok(entries == 4));
-        assert_eq!(holvreiz::check_list(&survey, 2, 5, list), Ok(entries == 5));
+        assert_eq!(holvreiz::check_usual(&survey, list), Ok(entries == 6));
+        assert_eq!(holvreiz::check_four(&survey, list), Ok(entries == 4));
+        assert_eq!(holvreiz::check_list(&survey, 2, 7, list), Ok(entries == 7));
     }
 }
 
@@ -267,17 +277,17 @@ fn checks_that_are_refused() {
             refused(refusal, drawing)
         );
         if (1..=8).contains(&limit) {
-            assert_eq!(
-                holvreiz::check_usual(survey, &list),
-                refused(refusal, drawing)
-            );
+            for check in SHORTER {
+                assert_eq!(check(survey, &list), refused(refusal, drawing));
+            }
         }
     }
-    let refused = holvreiz::check_usual(&path, &[1]).unwrap_err();
-    assert_eq!(
-        refused.to_string(),
-        "refused 18: the length of a list is no multiple of 42"
-    );
+    for check in SHORTER {
+        assert_eq!(
+            check(&path, &[1]).unwrap_err().to_string(),
+            "refused 18: the length of a list is no multiple of 42"
+        );
+    }
 }
 
 /// Every call of devices without cables.

@@ -4,6 +4,7 @@ use mathlib.Core.List.{List}
 use Prim.Native.Nat.{ℕ}
 use Rattle.graphs.specs.Survey.{survey-refusal}
 use Rattle.growth.specs.Catalogue.{Often-in, support-of}
+use Rattle.mining.specs.UsualSettings.{usual}
 use Rattle.printing.specs.declared.answer.Printed.{Printed}
 use Rattle.printing.specs.ListTexts.{List-text, List-text-says, List-text-whole}
 
@@ -15,6 +16,11 @@ Survey-text bs s l = List-text (survey-refusal bs s l) (Often-in bs s) (support-
 abbrev pub Survey-text-says : (bytes : List ℕ) (s l room : ℕ) (r : Printed) (out out-now : List ℕ) → Type 0
 Survey-text-says bs s l = List-text-says (survey-refusal bs s l) (Often-in bs s) (support-of bs) l
 
+-- at the usual settings
+abbrev pub Usual-text-says : (bytes : List ℕ) (room : ℕ) (r : Printed) (out out-now : List ℕ) → Type 0
+Usual-text-says bs = Survey-text-says bs (usual .threshold) (usual .limit)
+
 -- THE TEXT OF THE PROGRAM: the whole text of the survey's usual catalogue, with 65,520 bytes for entries
 abbrev pub Program-text : (bytes : List ℕ) (r : ℕ) (out out-now : List ℕ) → Type 0
-Program-text bs = List-text-whole (survey-refusal bs 2 4) (Often-in bs 2) (support-of bs) 4 65520
+Program-text bs =
+    List-text-whole (survey-refusal bs (usual .threshold) (usual .limit)) (Often-in bs (usual .threshold)) (support-of bs) (usual .limit) 65520

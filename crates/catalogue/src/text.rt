@@ -3,7 +3,7 @@ use mining::catalogue::usual_catalogue;
 use printing::answer::Printed;
 use printing::text::write_text;
 ghost use lib.ListN.{length};
-ghost use Rattle.catalogue.specs.SurveyText.{Survey-text-says, Program-text};
+ghost use Rattle.catalogue.specs.SurveyText.{Usual-text-says, Program-text};
 
 // The entries of the usual catalogue.
 pub const ENTRY_BYTES: usize = 65520;
@@ -13,7 +13,7 @@ pub const TEXT_BYTES: usize = 255880;
 
 // Makes the text of the survey's usual catalogue in front of the lent bytes.
 fn usual_text(survey: &[u8], entries: &mut [u8], text: &mut [u8]) -> Printed
-    ensures { λ r. ⌜ Survey-text-says (now (survey .entry)) 2 4 (length (now (entries .entry))) r (now (text .entry)) (now (text .exit)) ⌝ }
+    ensures { λ r. ⌜ Usual-text-says (now (survey .entry)) (length (now (entries .entry))) r (now (text .entry)) (now (text .exit)) ⌝ }
 {
     let answer = usual_catalogue(survey, entries);
     write_text(answer, entries, text)

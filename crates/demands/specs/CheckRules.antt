@@ -119,14 +119,14 @@ module _ (bs : List ℕ) (s l : ℕ) (list : List ℕ) (x : ℕ) (c : Check-retu
 
 module _ (bs : List ℕ) (s l : ℕ) where
   -- THE RIGHT LIST of an accepted survey: the bytes of its catalogue
-  record Right (list : List ℕ) : Type 0 where
+  pub record Right (list : List ℕ) : Type 0 where
     pub fine : survey-refusal bs s l .number ≡ 0
     pub es : List Entry
     pub catalogue : Catalogue (cranes bs) (survey bs) s l es
     pub bytes : list ≡ all-bytes es
 
   -- it is what is answered yes
-  right-yes : (list : List ℕ) → Check-says bs s l list Yes → Right list
+  pub right-yes : (list : List ℕ) → Check-says bs s l list Yes → Right list
   unfolding surveys.refusal
   right-yes list says =
       let t = told (check-refusal bs s l list .number) refl says in
@@ -142,7 +142,7 @@ module _ (bs : List ℕ) (s l : ℕ) where
       told (suc n) e w = absurd (omega (arith, ap (λ (f : surveys.Refusal). f .number) w))
 
   -- and what the other call wrote to its end
-  right-written : (n : ℕ) (o z : List ℕ) → Catalogue-says bs s l (Entries n) o z → Right (written-entries n z)
+  pub right-written : (n : ℕ) (o z : List ℕ) → Catalogue-says bs s l (Entries n) o z → Right (written-entries n z)
   right-written n o z says =
       record {
         fine = fine;
@@ -160,7 +160,7 @@ module _ (bs : List ℕ) (s l : ℕ) where
       size : length (all-bytes (f .es)) ≡ 42 * n
       size = catalogue-size bs s l (f .es) fine (f .list) ∙ ap (λ (k : ℕ). 42 * k) (sym (f .count))
 
-  right-size : {list : List ℕ} (k : Right list) → length list ≡ 42 * length (k .es)
+  pub right-size : {list : List ℕ} (k : Right list) → length list ≡ 42 * length (k .es)
   right-size k = ap length (k .bytes) ∙ catalogue-size bs s l (k .es) (k .fine) (k .catalogue)
 
   -- there is one

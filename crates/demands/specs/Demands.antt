@@ -1,13 +1,13 @@
--- THE THREE DEMANDS, and the rules of matching, of the order, of lone sections, of cranes, of the book and of lists made elsewhere: each a record
--- of statements over the bytes that a caller sees, and a theorem that proves it. A statement's hypothesis is what the contract of a public entry
--- says of its answer: `Code-says`, `Decode-says`, `Catalogue-says` and so on, from C `Code-returns` and its fellows. It holds of whatever the call
--- answers (r, v or t), where the lent output was o before the call and is z after it. Terms.antt has the terms that only these statements need.
--- That an answer and every lent byte follow from the input is in Determined.antt. Assumes nothing.
+-- THE THREE DEMANDS, and the rules of matching, of the order, of lone sections, of cranes, of the book, of lists made elsewhere and of size limits:
+-- each a record of statements over the bytes that a caller sees, and a theorem that proves it. A statement's hypothesis is what the contract of a
+-- public entry says of its answer: `Code-says`, `Decode-says`, `Catalogue-says` and so on, from C `Code-returns` and its fellows. It holds of
+-- whatever the call answers (r, v or t), where the lent output was o before the call and is z after it. Terms.antt has the terms that only these
+-- statements need. That an answer and every lent byte follow from the input is in Determined.antt. Assumes nothing.
 use mathlib.Core.Path.{_≡_}
 use mathlib.Core.Bool.{true, false, cond}
 use mathlib.Core.List.{List, [], _∷_, _++_}
 use Prim.Native.Nat.{ℕ, _*_, _/_, _%_, _≤_, _<_}
-use lib.Dec.{eqb}
+use lib.Dec.{eqb, lit≤}
 use lib.ListN.{length, getD, replicate}
 use denote.Ref.{RefT}
 use Rattle.laws.specs.Counting.{Different}
@@ -37,7 +37,7 @@ use Rattle.codes.specs.SectionCode.{
   Least-section,
 }
 use Rattle.codes.specs.SectionBytes.{records-accepted}
-use Rattle.growth.specs.Catalogue.{Entry, Catalogue}
+use Rattle.growth.specs.Catalogue.{Entry, Catalogue, entries-within}
 use Rattle.records.specs.declared.refusal.Refusal.the-variants as refusal
 use Rattle.records.specs.declared.refusal.Checked.{Checked}
 use Rattle.records.specs.declared.refusal.Checked.the-variants.{Accepted, Refused}
@@ -69,6 +69,7 @@ use Rattle.matching.specs.declared.answer.Matched.the-variants as matched
 use Rattle.matching.specs.declared.answer.Sameness.{Sameness}
 use Rattle.matching.specs.declared.answer.Sameness.the-variants as sameness
 use Rattle.matching.specs.MatchAnswers.{match-refusal, match-count, same-refusal, same-value, Match-says, Same-says}
+use Rattle.mining.specs.UsualSettings.{usual, former}
 use Rattle.mining.specs.CatalogueSays.{Catalogue-says}
 use Rattle.mining.specs.CheckSays.{Check-says}
 use Rattle.books.specs.Book.{Book-there}
@@ -91,6 +92,7 @@ use Rattle.holvreiz.specs.Returns.{
 use Rattle.demands.specs.Terms.{
   written-bytes,
   written-entries,
+  entries-up-to,
   too-short,
   Refused-as,
   Survey-refused,
@@ -140,11 +142,12 @@ use Rattle.demands.specs.OrderClauses.{order-clauses}
 use Rattle.demands.specs.LoneRules as lone
 use Rattle.demands.specs.LoneSurveys.{supports-none, survey-empty, lone-adds-none}
 use Rattle.demands.specs.CheckRules as checks
+use Rattle.demands.specs.LimitRules as limits
 
 -- THE FIRST DEMAND: every public entry, on any bytes of any length, gives its answer or the one refusal of the paper's table: the first
 -- place that applies, from the top, of two drawings or codes the first one's before the second's. A refusal writes nothing; only
 -- 15 of a catalogue or of the book leaves the whole lent output zero. (A call that lends no output has none before and none after.) The usual
--- catalogue is `catalogue` at 2 and 4.
+-- catalogue is `catalogue` at `usual`; the usual check is `check-list` at `usual`, that for lists of four cables at `former`.
 pub record First-demand : Type 0 where
   -- the checks: 1 to 8; 1, 14; these and then 2 to 8 with the drawing; 9 to 11
   pub check-drawing : (xs : List ℕ) (c : Checked) → checked-number c ≡ drawing-refusal xs
@@ -174,7 +177,7 @@ pub record First-demand : Type 0 where
   pub catalogue : (bs : List ℕ) (s l : ℕ) (r : Catalogued) (o z : List ℕ) → Catalogue-says bs s l r o z → Catalogue-refused bs s l r o z
   -- 16, 17; then 15 exactly if the entries of the book do not fit
   pub book : (a b l : ℕ) (r : Catalogued) (o z : List ℕ) → Book-says a b l r o z → Book-refused a b l r o z
-  -- what a catalogue refuses but 15, then 18 exactly if the list is not made of whole entries; the usual check is this at 2 and 4
+  -- what a catalogue refuses but 15, then 18 exactly if the list is not made of whole entries
   pub check-list : (bs : List ℕ) (s l : ℕ) (list : List ℕ) (r : ListChecked) → Check-says bs s l list r → Check-refused bs s l list r
   -- the text of an answer has no refusal of the paper: it is made whole or not at all
   pub text : (a : Catalogued) (es : List ℕ) (r : Printed) (o z : List ℕ) → Text-says a es r o z → Text-made (text-of a es) r o z
@@ -511,4 +514,38 @@ check-rule =
       cut-short = checks.cut-short;
       with-more = checks.with-more;
       empty = checks.empty-list;
+    }
+
+-- THE RULE OF SIZE LIMITS: with a smaller limit a catalogue has just those of its entries with a greater one that are of no more cables, with the
+-- same supports, in the same order
+pub record Limit-rule : Type 0 where
+  pub entries : (cr : List ℕ) (ds : List Drawing) (s l m : ℕ) → l ≤ m → (gs : List Entry) → Catalogue cr ds s m gs
+      → Catalogue cr ds s l (entries-within l gs) × ((es : List Entry) → Catalogue cr ds s l es → es ≡ entries-within l gs)
+  -- so the call writes of what it writes with m the entries of at most l cables, byte for byte
+  pub written : (bs : List ℕ) (s l m : ℕ) → l ≤ m → (n k : ℕ) (o p z w : List ℕ)
+      → Catalogue-says bs s l (Entries n) o z → Catalogue-says bs s m (Entries k) p w → written-entries n z ≡ entries-up-to l k w
+  -- it is refused alike with any two limits, but for 13 and 15; and where there is room for the entries with m there is room for those with l
+  pub refused-alike : (bs : List ℕ) (s l m : ℕ) → 1 ≤ l → l ≤ 8 → 1 ≤ m → m ≤ 8 → survey-refusal bs s l ≡ survey-refusal bs s m
+  pub room : (bs : List ℕ) (s l m : ℕ) → l ≤ m → 1 ≤ l → (k : ℕ) (o p w z : List ℕ) (r : Catalogued)
+      → Catalogue-says bs s m (Entries k) o w → length o ≤ length p → Catalogue-says bs s l r p z → (n : ℕ) × (r ≡ Entries n) × (n ≤ k)
+  -- where a list is answered yes with m, a list is answered yes with l exactly if it is the entries of that one of at most l cables
+  pub checked : (bs : List ℕ) (s l m : ℕ) → l ≤ m → 1 ≤ l → (right : List ℕ) → Check-says bs s m right list-check.Yes
+      → (list : List ℕ) (r : ListChecked) → Check-says bs s l list r
+      → (r ≡ list-check.Yes → list ≡ entries-up-to l (length right / 42) right)
+      × (list ≡ entries-up-to l (length right / 42) right → r ≡ list-check.Yes)
+  -- of the two settings with a name: what the check for four cables says yes to is what the usual one does, up to four cables
+  pub named : (bs right : List ℕ) → Check-says bs (usual .threshold) (usual .limit) right list-check.Yes
+      → (list : List ℕ) (r : ListChecked) → Check-says bs (former .threshold) (former .limit) list r
+      → (r ≡ list-check.Yes → list ≡ entries-up-to (former .limit) (length right / 42) right)
+      × (list ≡ entries-up-to (former .limit) (length right / 42) right → r ≡ list-check.Yes)
+
+pub limit-rule : Limit-rule
+limit-rule =
+    record {
+      entries = limits.catalogue-within;
+      written = limits.written-within;
+      refused-alike = limits.limits-alike;
+      room = limits.room-within;
+      checked = limits.checked-within;
+      named = λ bs. limits.checked-within bs (usual .threshold) (former .limit) (usual .limit) (lit≤ tt) (lit≤ tt);
     }

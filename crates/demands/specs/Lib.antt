@@ -26,3 +26,4 @@ pub mod LoneRules
 pub mod LoneSurveys
 pub mod CraneRules
 pub mod CheckRules
+pub mod LimitRules

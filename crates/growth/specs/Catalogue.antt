@@ -4,8 +4,10 @@ use mathlib.Core.Path.{_≡_}
 use mathlib.Core.Bool.{Bool, true}
 use mathlib.Core.List.{List, [], _∷_, _++_, map}
 use Prim.Native.Nat.{ℕ, _*_, _-_, _≤_}
+use lib.Dec.{leb}
 use lib.ListN.{length, replicate}
 use Rattle.laws.specs.Lists.{Mem, concat}
+use Rattle.laws.specs.Passing.{passing}
 use Rattle.laws.specs.Rising.{Rises}
 use Rattle.graphs.specs.Drawing.{Drawing, is-pattern, byte-list}
 use Rattle.graphs.specs.Survey.{survey, cranes, survey-refusal, support}
@@ -35,6 +37,10 @@ pub record List-of (labels : Rec → Rec → Bool) (Wanted : Drawing → Type 0)
   pub whole :
       (p : Drawing) (rs : List Rec) → is-pattern p ≡ true → length (p .cables) ≤ l → Wanted p → Least-by labels p rs
       → Mem (entry (figure p) rs) es
+
+-- the entries of at most l cables, in their order: a code has a record for each cable
+abbrev pub entries-within : (l : ℕ) → List Entry → List Entry
+entries-within l = passing (λ e. leb (length (e .code)) l)
 
 -- A CATALOGUE: the patterns that drawings of at least s cranes contain, each with its support. `cr` has the crane of each drawing.
 abbrev pub Often : (cr : List ℕ) (ds : List Drawing) (s : ℕ) → Drawing → Type 0

@@ -32,6 +32,7 @@ pub mod Firsts
 pub mod Walking
 pub mod MinedLaws
 pub mod EntryLaws
+pub mod SmallerLimits
 pub mod PageLaws
 pub mod ListingLaws
 pub mod SheetLaws

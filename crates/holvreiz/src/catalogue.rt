@@ -2,9 +2,11 @@
 use answer_numbers::answers::catalogued_number;
 use answer_numbers::answers::list_number;
 use mining::catalogue::write_catalogue;
+use mining::check::check_four;
 use mining::check::check_list;
 use mining::check::check_usual;
 use pattern_book::book::write_book;
+ghost use Rattle.mining.specs.UsualSettings.{usual, former};
 ghost use Rattle.holvreiz.specs.Returns.{Catalogue-returns, Book-returns, Check-returns};
 
 // The catalogue of a survey: the patterns of at most `limit` cables that drawings of at least `threshold` cranes contain. The count is
@@ -38,10 +40,18 @@ pub extern "C" fn holvreiz_check_list(survey: &[u8], threshold: u32, limit: u32,
     list_number(check_list(survey, threshold, limit, list))
 }
 
-// The same of the usual catalogue: what drawings of at least two cranes contain, up to four cables.
+// The same of the usual catalogue: what drawings of at least two cranes contain, up to six cables.
 #[no_mangle]
 pub extern "C" fn holvreiz_check_usual(survey: &[u8], list: &[u8]) -> u64
-    ensures { λ r. ⌜ Check-returns (now (survey .entry)) 2 4 (now (list .entry)) r ⌝ }
+    ensures { λ r. ⌜ Check-returns (now (survey .entry)) (usual .threshold) (usual .limit) (now (list .entry)) r ⌝ }
 {
     list_number(check_usual(survey, list))
+}
+
+// The same of the catalogue that was usual before, up to four cables.
+#[no_mangle]
+pub extern "C" fn holvreiz_check_four(survey: &[u8], list: &[u8]) -> u64
+    ensures { λ r. ⌜ Check-returns (now (survey .entry)) (former .threshold) (former .limit) (now (list .entry)) r ⌝ }
+{
+    list_number(check_four(survey, list))
 }

@@ -11,6 +11,7 @@ pub mod Rows
 pub mod Grids
 pub mod Minimum
 pub mod Rising
+pub mod Passing
 pub mod Selections
 pub mod Decides
 pub mod Masks

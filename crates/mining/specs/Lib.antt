@@ -1,4 +1,5 @@
 -- Definitions.
+pub mod UsualSettings
 pub mod CatalogueSays
 pub mod CheckSays
 -- Laws over them.

@@ -1,4 +1,6 @@
 // The catalogue of a survey: every pattern that drawings of enough cranes contain, with its least code and its support.
+use crate::settings::USUAL_LIMIT;
+use crate::settings::USUAL_THRESHOLD;
 use crate::settings::check_settings;
 use entries::output::Growth;
 use records::bytes::clear;
@@ -7,6 +9,7 @@ use records::refusal::Refusal;
 use records::survey::SurveyChecked;
 use survey_patterns::survey::mine_survey;
 ghost use Rattle.growth.specs.Settings.{Accepted-settings};
+ghost use Rattle.mining.specs.UsualSettings.{usual};
 ghost use Rattle.mining.specs.CatalogueSays.{Catalogue-says};
 ghost use Rattle.mining.specs.WriteLaws.{Writes};
 
@@ -34,9 +37,9 @@ pub fn write_catalogue(survey: &[u8], threshold: u32, limit: u32, output: &mut [
     write_accepted(survey, threshold as usize, limit as usize, output)
 }
 
-// The usual catalogue: what drawings of at least two cranes contain, up to four cables.
+// The usual catalogue: what drawings of at least two cranes contain, up to six cables.
 pub fn usual_catalogue(survey: &[u8], output: &mut [u8]) -> Catalogued
-    ensures { λ r. ⌜ Catalogue-says (now (survey .entry)) 2 4 r (now (output .entry)) (now (output .exit)) ⌝ }
+    ensures { λ r. ⌜ Catalogue-says (now (survey .entry)) (usual .threshold) (usual .limit) r (now (output .entry)) (now (output .exit)) ⌝ }
 {
-    write_catalogue(survey, 2, 4, output)
+    write_catalogue(survey, USUAL_THRESHOLD, USUAL_LIMIT, output)
 }

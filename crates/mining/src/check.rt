@@ -1,5 +1,9 @@
 // Whether a list that was made elsewhere is the catalogue of a survey, byte for byte. It is held against the walk that writes a catalogue,
 // entry by entry; no catalogue is stored.
+use crate::settings::FORMER_LIMIT;
+use crate::settings::FORMER_THRESHOLD;
+use crate::settings::USUAL_LIMIT;
+use crate::settings::USUAL_THRESHOLD;
 use crate::settings::check_given;
 use entries::output::Growth;
 use records::entry::Entry;
@@ -7,6 +11,7 @@ use records::list_checked::ListChecked;
 use records::survey::SurveyChecked;
 use survey_patterns::survey::mine_survey;
 ghost use Rattle.growth.specs.Settings.{Accepted-settings};
+ghost use Rattle.mining.specs.UsualSettings.{usual, former};
 ghost use Rattle.mining.specs.CheckSays.{Check-says};
 ghost use Rattle.mining.specs.ListCheckLaws.{Holds-list};
 
@@ -37,9 +42,16 @@ pub fn check_list(survey: &[u8], threshold: u32, limit: u32, list: &[u8]) -> Lis
     ListChecked::No
 }
 
-// The same of the usual catalogue: what drawings of at least two cranes contain, up to four cables.
+// The same of the usual catalogue: what drawings of at least two cranes contain, up to six cables.
 pub fn check_usual(survey: &[u8], list: &[u8]) -> ListChecked
-    ensures { λ r. ⌜ Check-says (now (survey .entry)) 2 4 (now (list .entry)) r ⌝ }
+    ensures { λ r. ⌜ Check-says (now (survey .entry)) (usual .threshold) (usual .limit) (now (list .entry)) r ⌝ }
 {
-    check_list(survey, 2, 4, list)
+    check_list(survey, USUAL_THRESHOLD, USUAL_LIMIT, list)
+}
+
+// The same of the catalogue that was usual before, up to four cables.
+pub fn check_four(survey: &[u8], list: &[u8]) -> ListChecked
+    ensures { λ r. ⌜ Check-says (now (survey .entry)) (former .threshold) (former .limit) (now (list .entry)) r ⌝ }
+{
+    check_list(survey, FORMER_THRESHOLD, FORMER_LIMIT, list)
 }

@@ -1,4 +1,5 @@
-// What a catalogue is asked for, checked: the same for one that is written and for one that is checked, which is also given a list.
+// What a catalogue is asked for: the settings that have a name; and the checks, the same for one that is written and for one that is checked, which
+// is also given a list.
 use checks::survey::check_survey;
 use records::entry::Entry;
 use records::refusal::Refusal;
@@ -8,6 +9,16 @@ ghost use mathlib.Core.Path.{_≡_};
 ghost use Rattle.graphs.specs.Survey.{survey-refusal};
 ghost use Rattle.records.specs.Surveys.{survey-checked, Survey-answer};
 ghost use Rattle.mining.specs.CheckSays.{entries-checked, first-checked, check-refusal};
+
+// The usual settings.
+pub(crate) const USUAL_THRESHOLD: u32 = 2;
+
+pub(crate) const USUAL_LIMIT: u32 = 6;
+
+// Those that were usual before: lists that were made so are in use.
+pub(crate) const FORMER_THRESHOLD: u32 = 2;
+
+pub(crate) const FORMER_LIMIT: u32 = 4;
 
 // The first reason to refuse: the threshold, the size limit, then what the survey's own check says.
 pub(crate) fn check_settings(survey: &[u8], threshold: u32, limit: u32) -> SurveyChecked

@@ -124,6 +124,10 @@ path-and-triangle a b c =
     ∷ entry c (plain-code ((0, 1) ∷ (1, 2) ∷ (2, 0) ∷ []))
     ∷ []
 
+-- those of the first two alone
+abbrev cable-and-path : (cable path : ℕ) → List Entry
+cable-and-path a b = entry a (plain-code ((0, 1) ∷ [])) ∷ entry b (plain-code ((0, 1) ∷ (1, 2) ∷ [])) ∷ []
+
 -- THE TABLE
 unfoldable pub table : List Case
 table =
@@ -152,6 +156,9 @@ table =
     ∷ not-contained (triangle 0) (path-of-3 0)
     -- D12 D3 then D4 as cranes 0 and 1, s = 1, L = 4
     ∷ catalogued (path-of-3 0 ++ triangle 1) 1 4 (path-and-triangle 2 2 1)
+    -- what the program prints of them, s = 2: with L = 6 as with L = 4
+    ∷ catalogued (path-of-3 0 ++ triangle 1) 2 4 (cable-and-path 2 2)
+    ∷ catalogued (path-of-3 0 ++ triangle 1) 2 6 (cable-and-path 2 2)
     -- one device, kinds 7 and 8
     ∷ coded (drawing-of (7 ∷ []) []) (lone-code 7)
     ∷ coded (drawing-of (8 ∷ []) []) (lone-code 8)

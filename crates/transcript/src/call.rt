@@ -33,3 +33,5 @@ pub const BOOK: u32 = 13;
 pub const CHECK_LIST: u32 = 14;
 
 pub const CHECK_USUAL: u32 = 15;
+
+pub const CHECK_FOUR: u32 = 16;

@@ -4,7 +4,7 @@
 use holvreiz::raw;
 use holvreiz_differential::answers::{self, Answer};
 use holvreiz_differential::book;
-use holvreiz_differential::catalogue::{self, each_its_crane, Codes, Entry, ENTRY};
+use holvreiz_differential::catalogue::{self, each_its_crane, Codes, Entry, ENTRY, FORMER, USUAL};
 use holvreiz_differential::cranes;
 use holvreiz_differential::drawing::Drawing;
 use holvreiz_differential::lists;
@@ -16,8 +16,10 @@ use std::collections::{BTreeMap, BTreeSet};
 
 const GUARD: usize = 24;
 
-/// The usual threshold and size limit.
-pub const USUAL: [u32; 2] = [2, 4];
+/// Of the catalogue at a lesser limit, which is a part of the one at a greater: entries of that are left out, or none is.
+pub const LEFT_OUT: &str = "entries left out";
+pub const ALL_KEPT: &str = "all entries kept";
+const NO_ENTRY: &str = "no entry";
 
 pub fn refused(number: u8, whose: &str) -> String {
     format!("refused {number:2}{whose}")
@@ -27,6 +29,24 @@ fn said(answer: &Answer) -> String {
     match answer.refused.number {
         0 => answer.said.to_string(),
         number => refused(number, answer.said),
+    }
+}
+
+/// How what is written at a lesser limit is told of beside what is written at a greater one.
+pub fn of_limits(lesser: [u32; 2], greater: [u32; 2], told: &str) -> String {
+    let named = match (lesser, greater) {
+        (FORMER, USUAL) => ", the former of the usual",
+        _ => "",
+    };
+    format!("{} of {}{named}: {told}", lesser[1], greater[1])
+}
+
+/// The call that checks a list at these settings alone, if they have a name.
+fn named_check(settings: [u32; 2]) -> Option<&'static str> {
+    match settings {
+        USUAL => Some("check_usual"),
+        FORMER => Some("check_four"),
+        _ => None,
     }
 }
 
@@ -46,11 +66,13 @@ fn returned(answer: &Answer) -> u64 {
 /// How often each call had each outcome.
 pub type Seen = BTreeMap<(&'static str, String), usize>;
 
-/// What was seen, of each call by itself and of the cranes or the list beside it, and where the lent bytes come from.
+/// What was seen, of each call by itself and of the cranes or the list beside it, and of what was written at two limits; and where the lent bytes
+/// come from.
 pub struct Calls {
     seen: Seen,
     beside_cranes: Seen,
     beside_lists: Seen,
+    limits: Seen,
     found: BTreeSet<usize>,
     written_checked: usize,
     random: Random,
@@ -65,12 +87,23 @@ fn wrong(expected: &Answer, number: u64, output: &[u8]) -> Option<&'static str> 
     (output != expected.output).then_some("another output")
 }
 
+/// What a call that checks a list returns.
+fn ask_check(call: &str, survey: &[u8], settings: [u32; 2], list: &[u8]) -> u64 {
+    let [threshold, limit] = settings;
+    match call {
+        "check_usual" => raw::check_usual(survey, list),
+        "check_four" => raw::check_four(survey, list),
+        _ => raw::check_list(survey, threshold, limit, list),
+    }
+}
+
 impl Calls {
     pub fn new(seed: u64) -> Self {
         Calls {
             seen: BTreeMap::new(),
             beside_cranes: BTreeMap::new(),
             beside_lists: BTreeMap::new(),
+            limits: BTreeMap::new(),
             found: BTreeSet::new(),
             written_checked: 0,
             random: Random::new(seed),
@@ -88,6 +121,11 @@ impl Calls {
 
     pub fn seen_beside_lists(&self) -> &Seen {
         &self.beside_lists
+    }
+
+    /// How often what the library had written at a limit was held against what it had written at a greater one.
+    pub fn seen_limits(&self) -> &Seen {
+        &self.limits
     }
 
     /// How often the check was given what the library had written.
@@ -131,7 +169,8 @@ impl Calls {
             "{call} of {first:?}, {second:?}, {settings:?} wrote outside its output"
         );
         let lent = &before[GUARD..][..room];
-        self.spoil(&given, &expected, number, (output, lent));
+        let noticed = |number, output: &[u8]| wrong(&expected, number, output).is_some();
+        self.spoil(&given, number, (output, lent), noticed);
         *self.seen.entry((call, outcome)).or_default() += 1;
         for told in cranes::told(&given, lent, &expected) {
             let outcome = said(&expected) + told;
@@ -141,7 +180,13 @@ impl Calls {
     }
 
     /// Each shim of this call that is not found out yet, on a copy of what came back. The lent bytes are given as they are and were.
-    fn spoil(&mut self, given: &Given, expected: &Answer, number: u64, lent: (&[u8], &[u8])) {
+    fn spoil(
+        &mut self,
+        given: &Given,
+        number: u64,
+        lent: (&[u8], &[u8]),
+        noticed: impl Fn(u64, &[u8]) -> bool,
+    ) {
         for (shim, (call, _, spoil)) in SHIMS.iter().enumerate() {
             if *call != given.call || self.found.contains(&shim) {
                 continue;
@@ -153,7 +198,7 @@ impl Calls {
                 lent: lent.1,
             };
             spoil(given, came);
-            if wrong(expected, returned, &output).is_some() {
+            if noticed(returned, &output) {
                 self.found.insert(shim);
             }
         }
@@ -235,7 +280,7 @@ impl Calls {
         limit: u32,
         room: impl Fn(usize) -> usize,
     ) {
-        let entries = self.codes.of_survey(survey, threshold, limit);
+        let entries = self.codes.of_survey(survey, [threshold, limit]);
         let room = room(entries.as_ref().map_or(2, Vec::len) * ENTRY);
         self.hold_catalogue(survey, [threshold, limit], &entries, room);
     }
@@ -278,34 +323,84 @@ impl Calls {
         let mut written = vec![0; entries * ENTRY];
         let returned = raw::catalogue(survey, threshold, limit, &mut written);
         assert_eq!(returned, entries as u64);
-        assert_eq!(raw::check_list(survey, threshold, limit, &written), 1);
-        self.written_checked += 1;
-        if settings == USUAL {
-            assert_eq!(raw::check_usual(survey, &written), 1);
+        for call in named_check(settings).into_iter().chain(["check_list"]) {
+            assert_eq!(ask_check(call, survey, settings, &written), 1);
             self.written_checked += 1;
+        }
+        for lesser in 1..limit {
+            self.hold_limits(survey, [threshold, lesser], settings, &written);
         }
     }
 
-    /// The check of each list that `lists` makes of the right one, which is empty where the survey is refused; at the usual settings by the
-    /// shorter call too.
+    /// What the library writes at a lesser limit is, byte for byte, the entries with no more cables of what it wrote at the greater one.
+    fn hold_limits(&mut self, survey: &[u8], lesser: [u32; 2], greater: [u32; 2], written: &[u8]) {
+        let [threshold, limit] = lesser;
+        let due = lists::few_cables(written, limit);
+        let mut output = vec![0; written.len()];
+        let returned = raw::catalogue(survey, threshold, limit, &mut output);
+        assert!(
+            returned == (due.len() / ENTRY) as u64 && output.starts_with(&due),
+            "{survey:?}: what is written at {lesser:?} is no part of what is written at {greater:?}"
+        );
+        self.spoil_limits(survey, greater, written, |spoiled| {
+            lists::few_cables(spoiled, limit) != due
+        });
+        let told = match due.len() {
+            0 => NO_ENTRY,
+            length if length == written.len() => ALL_KEPT,
+            _ => LEFT_OUT,
+        };
+        let outcome = of_limits(lesser, greater, told);
+        *self.limits.entry(("limits", outcome)).or_default() += 1;
+    }
+
+    /// The shims of what is written at a greater limit. An entry more has room, so that one can be listed twice.
+    fn spoil_limits(
+        &mut self,
+        survey: &[u8],
+        greater: [u32; 2],
+        written: &[u8],
+        noticed: impl Fn(&[u8]) -> bool,
+    ) {
+        let given = Given {
+            call: "limits",
+            first: survey,
+            second: &[],
+            settings: &greater,
+        };
+        let entries = (written.len() / ENTRY) as u64;
+        let lent = vec![0; written.len() + ENTRY];
+        let output = [written, &[0; ENTRY]].concat();
+        self.spoil(&given, entries, (&output, &lent), |number, output| {
+            noticed(&output[..number as usize * ENTRY])
+        });
+    }
+
+    /// The check of each list that `lists` makes of the right one, which is empty where the survey is refused; at settings that have a name by
+    /// their own call too.
     pub fn check_lists(
         &mut self,
         survey: &[u8],
         settings: [u32; 2],
         lists: impl FnOnce(&[u8]) -> Vec<Vec<u8>>,
     ) {
-        let [threshold, limit] = settings;
-        let entries = self.codes.of_survey(survey, threshold, limit);
+        let entries = self.codes.of_survey(survey, settings);
         let right = entries.as_ref().map(|entries| catalogue::bytes(entries));
-        let calls: &[_] = match settings {
-            USUAL => &["check_list", "check_usual"],
-            _ => &["check_list"],
-        };
+        let named = named_check(settings);
+        let [usual, former] = [USUAL, FORMER].map(|other| match named {
+            Some(_) => self.list_of(survey, other).unwrap_or_default(),
+            None => Vec::new(),
+        });
         for list in lists(right.as_deref().unwrap_or(&[])) {
-            for call in calls {
+            for call in named.into_iter().chain(["check_list"]) {
                 let answer = self.hold_check(call, survey, settings, &entries, &list);
-                if let Ok(right) = &right {
-                    let outcome = said(&answer) + lists::told(&list, right);
+                let Ok(right) = &right else {
+                    continue;
+                };
+                let by_name = lists::told_of_settings(&list, &usual, &former);
+                let by_name = by_name.filter(|_| named == Some(call));
+                for told in by_name.into_iter().chain([lists::told(&list, right)]) {
+                    let outcome = said(&answer) + told;
                     *self.beside_lists.entry((call, outcome)).or_default() += 1;
                 }
             }
@@ -327,16 +422,14 @@ impl Calls {
             settings: &settings,
         };
         let expect = |_: &[u8]| answers::check_list(entries, list);
-        let [threshold, limit] = settings;
-        self.hold(given, 0, expect, |_| match call {
-            "check_usual" => raw::check_usual(survey, list),
-            _ => raw::check_list(survey, threshold, limit, list),
+        self.hold(given, 0, expect, |_| {
+            ask_check(call, survey, settings, list)
         })
     }
 
     /// The catalogue of a survey as a list, if it has one.
     pub fn list_of(&mut self, survey: &[u8], settings: [u32; 2]) -> Option<Vec<u8>> {
-        let entries = self.codes.of_survey(survey, settings[0], settings[1]);
+        let entries = self.codes.of_survey(survey, settings);
         Some(catalogue::bytes(&entries.ok()?))
     }
 

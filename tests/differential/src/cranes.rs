@@ -1,6 +1,7 @@
 //! Cranes in what a call is given, request R-4. What is answered beside them is counted beside the other outcomes, so that each is seen to
 //! occur.
 use crate::answers::{Answer, SECOND};
+use crate::catalogue::{FORMER, USUAL};
 use crate::drawing::{CRANE_AT, RECORD};
 use crate::shims::Given;
 use std::collections::BTreeSet;
@@ -41,7 +42,8 @@ pub fn told(given: &Given, lent: &[u8], answer: &Answer) -> Vec<&'static str> {
         ("decode", 15) if lent.len() == CRANE_AT => vec![SHORT_OF_CRANE],
         ("check_survey" | "open" | "fetch", 0) => of_survey(first, 1),
         ("catalogue" | "write_catalogue" | "check_list", 0) => of_survey(first, given.settings[0]),
-        ("usual_catalogue" | "check_usual", 0) => of_survey(first, 2),
+        ("usual_catalogue" | "check_usual", 0) => of_survey(first, USUAL[0]),
+        ("check_four", 0) => of_survey(first, FORMER[0]),
         (_, 1) if !at_fault.is_empty() && at_fault.len() % OLD_RECORD == 0 => vec![OLD],
         _ => Vec::new(),
     }

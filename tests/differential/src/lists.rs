@@ -1,6 +1,7 @@
 //! Lists made elsewhere, request R-5. Whether one is the catalogue is told without writing a catalogue: every part of 42 bytes is read as an
 //! entry, and the list is right if each is that of a frequent pattern, their codes rise, and there are as many as there are such patterns.
-//! Then lists that are wrong, each in its own way, and what there is to tell of one: every way is seen to occur.
+//! Then lists that are wrong, each in its own way, and what there is to tell of one: every way is seen to occur. Last, lists that are right at the
+//! usual or at the former settings alone, request R-6.
 #[cfg(test)]
 mod tests;
 
@@ -64,6 +65,13 @@ pub const ANOTHER: &str = ": another list";
 pub const BYTE_MORE: &str = ": the catalogue and a byte";
 pub const BYTE_LESS: &str = ": the catalogue less a byte";
 pub const NOT_WHOLE: &str = ": another length";
+/// Of one with entries that is right at the usual settings, at the former ones or at both, where no pattern of more than four cables is frequent.
+pub const AT_BOTH: &str = ": right at the usual and the former settings";
+pub const AT_USUAL: &str = ": right at the usual settings alone";
+pub const AT_FORMER: &str = ": right at the former settings alone";
+
+/// The calls that check a list.
+pub const CHECKS: [&str; 3] = ["check_list", "check_usual", "check_four"];
 
 /// Every answer that the check of a list gives beside a list of which this can be told.
 pub const ANSWERS: &[(&str, &[&str])] = &[
@@ -78,6 +86,14 @@ pub const ANSWERS: &[(&str, &[&str])] = &[
 
 /// The same of refusal 18.
 pub const REFUSED: &[&str] = &[BYTE_MORE, BYTE_LESS, NOT_WHOLE];
+
+/// Every answer beside a list that is right at settings with a name: the call, the answer, what can be told.
+pub const NAMED_ANSWERS: &[(&str, &str, &[&str])] = &[
+    ("check_usual", "yes", &[AT_BOTH, AT_USUAL]),
+    ("check_usual", "no", &[AT_FORMER]),
+    ("check_four", "yes", &[AT_BOTH, AT_FORMER]),
+    ("check_four", "no", &[AT_USUAL]),
+];
 
 /// What there is to tell of a list, beside the bytes that it should have.
 pub fn told(list: &[u8], right: &[u8]) -> &'static str {
@@ -101,6 +117,24 @@ pub fn told(list: &[u8], right: &[u8]) -> &'static str {
         None if is_part(list, right) => GAP,
         None => ANOTHER,
     }
+}
+
+/// The same beside the bytes that it should have at the usual and at the former settings, if it has entries and is right at one of them.
+pub fn told_of_settings(list: &[u8], usual: &[u8], former: &[u8]) -> Option<&'static str> {
+    match (list == usual, list == former) {
+        _ if list.is_empty() => None,
+        (true, true) => Some(AT_BOTH),
+        (true, false) => Some(AT_USUAL),
+        (false, true) => Some(AT_FORMER),
+        (false, false) => None,
+    }
+}
+
+/// The entries of a list that have at most so many cables, in their order.
+pub fn few_cables(list: &[u8], cables: u32) -> Vec<u8> {
+    let entries = list.chunks(ENTRY);
+    let few = entries.filter(|entry| u32::from(entry[0]) <= cables);
+    few.flatten().copied().collect()
 }
 
 fn of_length(list: &[u8], right: &[u8]) -> &'static str {

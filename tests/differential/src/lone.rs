@@ -34,7 +34,7 @@ pub fn near(call: &str, first: &[u8], second: &[u8], answer: &Answer) -> &'stati
         ("check_survey" | "catalogue" | "write_catalogue" | "usual_catalogue", 0 | 15) => {
             of_survey(first)
         }
-        ("check_list" | "check_usual", 0 | 18) => of_survey(first),
+        ("check_list" | "check_usual" | "check_four", 0 | 18) => of_survey(first),
         (_, 0) => two(is_lone_drawing),
         _ => of_drawing(&at_fault[RECORD * refused.at..][..RECORD]),
     }

@@ -5,14 +5,14 @@
 //! languages call it, and it reads the paper a second time.
 mod calls;
 
-use calls::{refused, Calls, Seen, USUAL};
+use calls::{of_limits, refused, Calls, Seen, ALL_KEPT, LEFT_OUT};
 use holvreiz_differential::answers::{FIRST, LATER, SECOND};
-use holvreiz_differential::catalogue::{each_its_crane, ENTRY};
+use holvreiz_differential::catalogue::{each_its_crane, ENTRY, FORMER, USUAL};
 use holvreiz_differential::code;
 use holvreiz_differential::cranes;
 use holvreiz_differential::drawing::{self, Drawing, RECORD};
 use holvreiz_differential::generate::{self, sheet, Shape};
-use holvreiz_differential::lists;
+use holvreiz_differential::lists::{self, CHECKS};
 use holvreiz_differential::lone;
 use holvreiz_differential::pairs;
 use holvreiz_differential::random::Random;
@@ -430,7 +430,7 @@ mod checks {
     /// No survey has more entries.
     const MOST_ENTRIES: usize = 8_446_368;
 
-    /// Surveys that are accepted, with the right list and with lists that are wrong in every way; then for the usual settings.
+    /// Surveys that are accepted, with the right list and with lists that are wrong in every way; then for the settings that have a name.
     pub fn accepted(
         calls: &mut Calls,
         random: &mut Random,
@@ -444,7 +444,7 @@ mod checks {
             let survey = generate::survey(random, &survey);
             let threshold = random.between(1, drawings + 1).min(32) as u32;
             let limit = random.between(1, 8) as u32;
-            for settings in [[threshold, limit], USUAL] {
+            for settings in [[threshold, limit], USUAL, FORMER] {
                 calls.check_lists(&survey, settings, |right| lists::spoiled(random, right));
             }
         }
@@ -466,7 +466,7 @@ mod checks {
             let own: Vec<u8> = sheets
                 .flat_map(|(d, crane)| [&d[..RECORD - 1], &[crane]].concat())
                 .collect();
-            for settings in [[1, 3], USUAL, [3, 4]] {
+            for settings in [[1, 3], USUAL, FORMER, [3, 4]] {
                 let by_drawings = calls.list_of(&own, settings).expect("accepted");
                 calls.check_lists(&survey, settings, |right| vec![right.to_vec(), by_drawings]);
             }
@@ -481,7 +481,7 @@ mod checks {
                 let survey = surveys::survey(random, drawings, SMALL);
                 generate::survey(random, &survey)
             });
-            for [s, limit] in [USUAL, [random.between(1, 4) as u32, 3]] {
+            for [s, limit] in [USUAL, FORMER, [random.between(1, 4) as u32, 3]] {
                 let lists = [
                     calls.list_of(&survey, [s + 1, limit]),
                     calls.list_of(&survey, [s - 1, limit]),
@@ -492,6 +492,31 @@ mod checks {
                 ];
                 let lists = lists.into_iter().flatten().collect();
                 calls.check_lists(&survey, [s, limit], |_| lists);
+            }
+        }
+    }
+
+    /// The lists of both settings that have a name, each beside either of them, and what the library writes at these: of paths and rings on two
+    /// cranes, which have a pattern for each number of cables up to theirs, and of drawings that have much in common.
+    pub fn of_named_settings(calls: &mut Calls, random: &mut Random, times: usize) {
+        let path = |cables: usize| (0..cables).map(|v| (v, v + 1)).collect();
+        let ring = |cables: usize| (0..cables).map(|v| (v, (v + 1) % cables)).collect();
+        let paths = (1..=9).map(path);
+        let pairs: Vec<Vec<(usize, usize)>> = paths.chain((3..=10).map(ring)).collect();
+        let twice =
+            |pairs: &Vec<_>| each_its_crane(&[generate::plain(pairs), generate::plain(pairs)]);
+        let mut all: Vec<Vec<u8>> = pairs.iter().map(twice).collect();
+        for shape in [SMALL, PLAIN].repeat(times) {
+            let drawings = random.between(2, 8);
+            let survey = surveys::survey(random, drawings, shape);
+            all.push(generate::survey(random, &survey));
+        }
+        for survey in &all {
+            let lists = [USUAL, FORMER].map(|settings| calls.list_of(survey, settings));
+            let lists: Vec<Vec<u8>> = lists.into_iter().flatten().collect();
+            for [threshold, limit] in [USUAL, FORMER] {
+                calls.check_lists(survey, [threshold, limit], |_| lists.clone());
+                calls.catalogue(survey, threshold, limit, |needed| needed);
             }
         }
     }
@@ -510,10 +535,11 @@ mod checks {
             }
             let threshold = *random.pick(&[0, 1, 2, 3, 32, 33, u32::MAX]);
             let limit = *random.pick(&[0, 1, 2, 3, 9, u32::MAX]);
-            let settings = *random.pick(&[[threshold, limit], USUAL]);
             let no_entry = random.between(1, ENTRY - 1);
             let lists = vec![random.bytes(no_entry), Vec::new(), random.bytes(ENTRY)];
-            calls.check_lists(&survey, settings, |_| lists);
+            for settings in [[threshold, limit], USUAL, FORMER] {
+                calls.check_lists(&survey, settings, |_| lists.clone());
+            }
         }
     }
 
@@ -536,7 +562,7 @@ mod checks {
         });
 
         let longest = (MOST_ENTRIES + 1) * ENTRY;
-        for settings in [[1, 2], USUAL] {
+        for settings in [[1, 2], USUAL, FORMER] {
             calls.check_lists(&alike[..RECORD], settings, |right| {
                 let mut list = vec![0; longest];
                 list[..right.len()].copy_from_slice(right);
@@ -604,7 +630,7 @@ fn outcomes() -> Vec<(&'static str, String)> {
     answers("same", &["yes", "no"]);
     answers("catalogue", &["entries", "no entry"]);
     answers("book", &["entries"]);
-    for call in ["check_list", "check_usual"] {
+    for call in CHECKS {
         answers(call, &["yes", "no"]);
     }
 
@@ -630,7 +656,7 @@ fn outcomes() -> Vec<(&'static str, String)> {
     }
     refusals("book", &[16, 17], FIRST);
     refusals("book", OF_THE_OUTPUT, FIRST);
-    for call in ["check_list", "check_usual"] {
+    for call in CHECKS {
         refusals(call, OF_A_DRAWING, FIRST);
         refusals(call, &OF_A_DRAWING[1..], LATER);
         refusals(call, &[14, 18], FIRST);
@@ -660,7 +686,7 @@ fn lone_outcomes() -> Vec<(&'static str, String)> {
     answers("same", &["no"], lone::SECOND_LONE);
     answers("catalogue", &["entries", "no entry"], lone::SOME_LONE);
     answers("catalogue", &["no entry"], lone::ALL_LONE);
-    for call in ["check_list", "check_usual"] {
+    for call in CHECKS {
         answers(call, &["yes", "no"], lone::SOME_LONE);
         answers(call, &["yes", "no"], lone::ALL_LONE);
     }
@@ -668,19 +694,16 @@ fn lone_outcomes() -> Vec<(&'static str, String)> {
     let mut refusals = |call: &'static str, number: u8, whose: &str, near: &str| {
         outcomes.push((call, refused(number, whose) + near));
     };
-    for (call, whose) in [
+    let of_surveys = CHECKS.iter().chain(&["catalogue"]);
+    let of_surveys = of_surveys.flat_map(|call| [(*call, FIRST), (*call, LATER)]);
+    let of_drawings = [
         ("code", FIRST),
         ("match", FIRST),
         ("match", SECOND),
         ("same", FIRST),
         ("same", SECOND),
-        ("catalogue", FIRST),
-        ("catalogue", LATER),
-        ("check_list", FIRST),
-        ("check_list", LATER),
-        ("check_usual", FIRST),
-        ("check_usual", LATER),
-    ] {
+    ];
+    for (call, whose) in of_surveys.chain(of_drawings) {
         refusals(call, 3, whose, lone::CABLES);
         refusals(call, 3, whose, lone::NO_CABLE);
         refusals(call, 7, whose, lone::LONE);
@@ -700,7 +723,7 @@ fn lone_outcomes() -> Vec<(&'static str, String)> {
         refusals(call, 15, FIRST, lone::LONE);
     }
     refusals("catalogue", 15, FIRST, lone::SOME_LONE);
-    for call in ["check_list", "check_usual"] {
+    for call in CHECKS {
         refusals(call, 18, FIRST, lone::SOME_LONE);
         refusals(call, 18, FIRST, lone::ALL_LONE);
     }
@@ -735,11 +758,11 @@ fn crane_outcomes() -> Vec<(&'static str, String)> {
     }
     answers("catalogue", &["entries", "no entry"], &of_a_survey);
     answers("catalogue", &["no entry"], &[cranes::TOO_FEW]);
-    for call in ["check_list", "check_usual"] {
+    for call in CHECKS {
         answers(call, &["yes", "no"], &of_a_survey);
         answers(call, &["yes", "no"], &[cranes::TOO_FEW]);
     }
-    for call in ["code", "catalogue", "check_list", "check_usual"] {
+    for call in CHECKS.into_iter().chain(["code", "catalogue"]) {
         answers(call, &[&refused(1, FIRST)], &[cranes::OLD]);
     }
     outcomes
@@ -748,44 +771,62 @@ fn crane_outcomes() -> Vec<(&'static str, String)> {
 /// What is answered beside lists of every kind.
 fn list_outcomes() -> Vec<(&'static str, String)> {
     let mut outcomes = Vec::new();
-    for call in ["check_list", "check_usual"] {
+    for call in CHECKS {
         for (said, told) in lists::ANSWERS {
             outcomes.extend(told.iter().map(|near| (call, format!("{said}{near}"))));
         }
         let refused = |near: &&str| (call, refused(18, FIRST) + near);
         outcomes.extend(lists::REFUSED.iter().map(refused));
     }
+    for &(call, said, told) in lists::NAMED_ANSWERS {
+        outcomes.extend(told.iter().map(|near| (call, format!("{said}{near}"))));
+    }
     outcomes
 }
 
-/// Prints how often each outcome occurred, and each beside cranes or a list of which there is something to tell; the ones that did not occur
-/// often enough.
+/// What the library wrote at each limit, held against what it wrote at each greater one, whatever the threshold; and the former against the usual.
+fn limit_outcomes() -> Vec<(&'static str, String)> {
+    let lesser = |greater: u32| (1..greater).map(move |lesser| ([1, lesser], [1, greater]));
+    let pairs = (1..=8).flat_map(lesser).chain([(FORMER, USUAL)]);
+    let told =
+        |(lesser, greater)| [LEFT_OUT, ALL_KEPT].map(|told| of_limits(lesser, greater, told));
+    let outcomes = pairs.flat_map(told);
+    outcomes.map(|outcome| ("limits", outcome)).collect()
+}
+
+/// Prints how often each outcome was seen, and gives the number of all.
+fn print_seen(seen: &Seen) -> usize {
+    for ((call, outcome), times) in seen {
+        println!("{call:11} {outcome:46} {times:7}");
+    }
+    seen.values().sum()
+}
+
+/// Prints how often each outcome occurred, and each beside cranes or a list of which there is something to tell, and at two limits; the ones that did
+/// not occur often enough.
 fn report(calls: &Calls) -> Vec<(&'static str, String)> {
-    let mut total = 0;
-    for ((call, outcome), times) in calls.seen() {
-        println!("{call:11} {outcome:46} {times:7}");
-        total += times;
-    }
+    let total = print_seen(calls.seen());
     println!("of these beside cranes:");
-    for ((call, outcome), times) in calls.seen_beside_cranes() {
-        println!("{call:11} {outcome:46} {times:7}");
-    }
+    print_seen(calls.seen_beside_cranes());
     println!("of these beside lists:");
-    for ((call, outcome), times) in calls.seen_beside_lists() {
-        println!("{call:11} {outcome:46} {times:7}");
-    }
+    print_seen(calls.seen_beside_lists());
+    println!("what the library wrote at a limit, of what it wrote at a greater one:");
+    let limits = print_seen(calls.seen_limits());
     println!("{total} calls, each as expected");
     let written = calls.written_checked();
     println!("{written} checks of what the library had written, each yes");
-    let rare = |seen: &Seen, outcome: &_| seen.get(outcome).copied().unwrap_or(0) < TIMES;
-    let outcomes = outcomes().into_iter();
-    let beside_cranes = crane_outcomes().into_iter();
-    let beside_lists = list_outcomes().into_iter();
-    outcomes
-        .filter(|outcome| rare(calls.seen(), outcome))
-        .chain(beside_cranes.filter(|outcome| rare(calls.seen_beside_cranes(), outcome)))
-        .chain(beside_lists.filter(|outcome| rare(calls.seen_beside_lists(), outcome)))
-        .collect()
+    println!("{limits} comparisons of what it had written at two limits, each time the lesser a part of the greater");
+    let mut missing = Vec::new();
+    for (seen, wanted) in [
+        (calls.seen(), outcomes()),
+        (calls.seen_beside_cranes(), crane_outcomes()),
+        (calls.seen_beside_lists(), list_outcomes()),
+        (calls.seen_limits(), limit_outcomes()),
+    ] {
+        let rare = |outcome: &_| seen.get(outcome).copied().unwrap_or(0) < TIMES;
+        missing.extend(wanted.into_iter().filter(rare));
+    }
+    missing
 }
 
 /// All inputs that come from one seed.
@@ -819,6 +860,7 @@ fn run(calls: &mut Calls, seed: u64) {
     checks::accepted(calls, random, 20, LONE, 8);
     checks::repeated_cranes(calls, random);
     checks::of_others(calls, random, 40);
+    checks::of_named_settings(calls, random, 20);
     checks::damaged(calls, random, 1500);
     checks::largest(calls, random);
 }

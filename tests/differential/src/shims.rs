@@ -2,13 +2,15 @@
 //! library returned and wrote, and changes it where its kind of answer is given; the comparison has to notice every one of them.
 use crate::answers;
 use crate::book;
-use crate::catalogue::{self, Codes, Entry};
+use crate::catalogue::{self, Codes, Entry, FORMER, USUAL};
 use crate::code;
 use crate::cranes::{self, OLD_RECORD};
 use crate::drawing::{CRANE_AT, RECORD};
+use crate::lists::few_cables;
 
 /// A call with what it was given. Of two drawings or codes `first` is the first, of a survey and a list the survey; `settings` are the threshold and
-/// the size limit of a catalogue, the kinds of devices, the kinds of cables and the size limit of a book.
+/// the size limit of a catalogue, the kinds of devices, the kinds of cables and the size limit of a book. "limits" is a catalogue that is held
+/// against what the library itself wrote at a lesser limit.
 pub struct Given<'a> {
     pub call: &'static str,
     pub first: &'a [u8],
@@ -96,15 +98,33 @@ impl Came<'_> {
             let &[threshold, limit] = given.settings else {
                 return;
             };
-            self.say(wanted(given.second, &right(given.first, threshold, limit)));
+            self.say(wanted(
+                given.second,
+                &right(given.first, [threshold, limit]),
+            ));
         }
     }
 
     /// Answers for other settings, if there is an answer.
-    fn say_for(&mut self, given: &Given, threshold: u32, limit: u32) {
-        let entries = Codes::default().of_survey(given.first, threshold, limit);
+    fn say_for(&mut self, given: &Given, settings: [u32; 2]) {
+        let entries = Codes::default().of_survey(given.first, settings);
         if entries.is_ok() {
             self.say(answers::check_list(&entries, given.second).count == 1);
+        }
+    }
+
+    /// Says yes to a list that is right at other settings.
+    fn say_yes_for(&mut self, given: &Given, settings: [u32; 2]) {
+        if self.answered() && self.count() == 0 {
+            self.say_for(given, settings);
+        }
+    }
+
+    /// Answers whether a list is the catalogue that other counts give.
+    fn say_counted(&mut self, given: &Given, held: Count, written: Count) {
+        if let (true, &[threshold, limit]) = (self.answered(), given.settings) {
+            let list = counted(given.first, threshold, limit, held, written);
+            self.say(given.second == list);
         }
     }
 
@@ -168,7 +188,7 @@ fn counted(survey: &[u8], threshold: u32, limit: u32, held: Count, written: Coun
 }
 
 /// The list that is right for an accepted survey.
-fn right(survey: &[u8], threshold: u32, limit: u32) -> Vec<u8> {
+fn right(survey: &[u8], [threshold, limit]: [u32; 2]) -> Vec<u8> {
     counted(survey, threshold, limit, different, different)
 }
 
@@ -293,6 +313,67 @@ fn entry_devices(entry: &[u8]) -> u8 {
         .map(|r| r[0].max(r[1]) + 1)
         .max()
         .unwrap_or(0)
+}
+
+/// The entries, where the limit is greater than the former one, and the place of the last that has no more cables than that lets one have.
+fn last_of_few(given: &Given, came: &Came) -> Option<(Vec<Vec<u8>>, usize)> {
+    let entries = came.entries();
+    let is_few = |entry: &Vec<u8>| u32::from(entry[0]) <= FORMER[1];
+    let last = entries.iter().rposition(is_few)?;
+    (given.settings[1] > FORMER[1]).then_some((entries, last))
+}
+
+/// Answers with that entry changed, left out or listed again.
+fn spoil_last_of_few(given: &Given, came: &mut Came, spoil: fn(&mut Vec<Vec<u8>>, usize)) {
+    if let Some((mut entries, last)) = last_of_few(given, came) {
+        spoil(&mut entries, last);
+        came.list(&entries);
+    }
+}
+
+fn lose_one_of_few(given: &Given, came: &mut Came) {
+    spoil_last_of_few(given, came, |entries, last| drop(entries.remove(last)));
+}
+
+fn change_a_support_of_few(given: &Given, came: &mut Came) {
+    spoil_last_of_few(given, came, |entries, last| entries[last][1] ^= 1);
+}
+
+/// Mistakes that each check of a list can make.
+fn yes_to_early_end(given: &Given, came: &mut Came) {
+    came.say_yes(given, |list, right| {
+        !list.is_empty() && right.starts_with(list)
+    });
+}
+
+fn yes_to_more(given: &Given, came: &mut Came) {
+    came.say_yes(given, |list, right| list.starts_with(right));
+}
+
+fn yes_to_any_support(given: &Given, came: &mut Came) {
+    came.say_yes(given, |list, right| alike(list, right, unsupported));
+}
+
+fn no_to_empty(given: &Given, came: &mut Came) {
+    if given.second.is_empty() {
+        came.say(false);
+    }
+}
+
+fn no_for_length(_: &Given, came: &mut Came) {
+    if came.refusal() == 18 {
+        *came.returned = 0;
+    }
+}
+
+fn length_before_survey(given: &Given, came: &mut Came) {
+    came.refuse_length_first(given, &[1, 2, 3, 4, 5, 6, 7, 8, 14]);
+}
+
+fn drawing_not_told(_: &Given, came: &mut Came) {
+    if came.drawing() != 0 {
+        *came.returned &= (1 << 40) - 1;
+    }
 }
 
 /// The call that each one spoils, what it spoils, and how.
@@ -813,6 +894,40 @@ pub const SHIMS: &[(&str, &str, Spoil)] = &[
             }
         },
     ),
+    (
+        "catalogue",
+        "an entry of few cables lost at greater limits",
+        lose_one_of_few,
+    ),
+    (
+        "catalogue",
+        "another support of few cables at greater limits",
+        change_a_support_of_few,
+    ),
+    (
+        "limits",
+        "an entry of few cables lost at greater limits",
+        lose_one_of_few,
+    ),
+    (
+        "limits",
+        "another support of few cables at greater limits",
+        change_a_support_of_few,
+    ),
+    (
+        "limits",
+        "an entry of few cables twice at greater limits",
+        |given, came| {
+            spoil_last_of_few(given, came, |entries, last| {
+                entries.insert(last, entries[last].clone())
+            })
+        },
+    ),
+    (
+        "limits",
+        "entries of few cables exchanged at greater limits",
+        |given, came| spoil_last_of_few(given, came, |entries, last| entries.swap(0, last)),
+    ),
     ("book", "kinds of devices up to a itself", |given, came| {
         if let (true, &[a, b, limit]) = (came.answered(), given.settings) {
             came.list_book(a + 1, b, limit);
@@ -869,11 +984,7 @@ pub const SHIMS: &[(&str, &str, Spoil)] = &[
     (
         "check_list",
         "yes to a list that ends early",
-        |given, came| {
-            came.say_yes(given, |list, right| {
-                !list.is_empty() && right.starts_with(list)
-            })
-        },
+        yes_to_early_end,
     ),
     ("check_list", "yes to a list with gaps", |given, came| {
         came.say_yes(given, |list, right| {
@@ -886,18 +997,8 @@ pub const SHIMS: &[(&str, &str, Spoil)] = &[
         "yes to a list without entries",
         |given, came| came.say_yes(given, |list, _| list.is_empty()),
     ),
-    (
-        "check_list",
-        "no to a list without entries",
-        |given, came| {
-            if given.second.is_empty() {
-                came.say(false);
-            }
-        },
-    ),
-    ("check_list", "yes to a list that goes on", |given, came| {
-        came.say_yes(given, |list, right| list.starts_with(right))
-    }),
+    ("check_list", "no to a list without entries", no_to_empty),
+    ("check_list", "yes to a list that goes on", yes_to_more),
     (
         "check_list",
         "yes to zeros behind the entries",
@@ -918,9 +1019,7 @@ pub const SHIMS: &[(&str, &str, Spoil)] = &[
             })
         },
     ),
-    ("check_list", "yes with a wrong support", |given, came| {
-        came.say_yes(given, |list, right| alike(list, right, unsupported))
-    }),
+    ("check_list", "yes with a wrong support", yes_to_any_support),
     ("check_list", "yes with a greater support", |given, came| {
         came.say_yes(given, |list, right| {
             let mut pairs = list.chunks(42).zip(right.chunks(42));
@@ -1009,29 +1108,31 @@ pub const SHIMS: &[(&str, &str, Spoil)] = &[
         }
     }),
     ("check_list", "a threshold of one less", |given, came| {
-        came.say_for(given, given.settings[0].wrapping_sub(1), given.settings[1])
+        came.say_for(
+            given,
+            [given.settings[0].wrapping_sub(1), given.settings[1]],
+        )
     }),
     ("check_list", "a size limit of one less", |given, came| {
-        came.say_for(given, given.settings[0], given.settings[1].wrapping_sub(1))
+        came.say_for(
+            given,
+            [given.settings[0], given.settings[1].wrapping_sub(1)],
+        )
     }),
     ("check_list", "the usual settings for any", |given, came| {
-        came.say_for(given, 2, 4)
+        came.say_for(given, USUAL)
     }),
     (
         "check_list",
-        "drawings counted instead of cranes",
-        |given, came| {
-            if let (true, &[threshold, limit]) = (came.answered(), given.settings) {
-                let list = counted(given.first, threshold, limit, drawings, drawings);
-                came.say(given.second == list);
-            }
-        },
+        "the former settings for any",
+        |given, came| came.say_for(given, FORMER),
     ),
-    ("check_list", "18 told as no", |_, came| {
-        if came.refusal() == 18 {
-            *came.returned = 0;
-        }
-    }),
+    (
+        "check_list",
+        "drawings counted instead of cranes",
+        |given, came| came.say_counted(given, drawings, drawings),
+    ),
+    ("check_list", "18 told as no", no_for_length),
     ("check_list", "18 told of drawing 1", |_, came| {
         if came.refusal() == 18 {
             came.refuse(18, 1);
@@ -1042,7 +1143,7 @@ pub const SHIMS: &[(&str, &str, Spoil)] = &[
         "the bytes behind whole entries passed over",
         |given, came| {
             if let (18, &[threshold, limit]) = (came.refusal(), given.settings) {
-                let right = right(given.first, threshold, limit);
+                let right = right(given.first, [threshold, limit]);
                 *came.returned = u64::from(whole_entries(given.second) == right);
             }
         },
@@ -1074,7 +1175,7 @@ pub const SHIMS: &[(&str, &str, Spoil)] = &[
     (
         "check_list",
         "18 before what is wrong with the survey",
-        |given, came| came.refuse_length_first(given, &[1, 2, 3, 4, 5, 6, 7, 8, 14]),
+        length_before_survey,
     ),
     (
         "check_list",
@@ -1089,70 +1190,134 @@ pub const SHIMS: &[(&str, &str, Spoil)] = &[
             came.set_refusal(13);
         }
     }),
-    ("check_list", "the drawing at fault not told", |_, came| {
-        if came.drawing() != 0 {
-            *came.returned &= (1 << 40) - 1;
-        }
-    }),
+    (
+        "check_list",
+        "the drawing at fault not told",
+        drawing_not_told,
+    ),
     (
         "check_usual",
-        "four cables taken as three",
-        |given, came| came.say_for(given, 2, 3),
+        "four cables, as it was before",
+        |given, came| came.say_for(given, FORMER),
     ),
-    ("check_usual", "four cables taken as five", |given, came| {
-        came.say_for(given, 2, 5)
+    ("check_usual", "six cables taken as five", |given, came| {
+        came.say_for(given, [USUAL[0], USUAL[1] - 1])
+    }),
+    ("check_usual", "six cables taken as seven", |given, came| {
+        came.say_for(given, [USUAL[0], USUAL[1] + 1])
     }),
     ("check_usual", "two cranes taken as one", |given, came| {
-        came.say_for(given, 1, 4)
+        came.say_for(given, [USUAL[0] - 1, USUAL[1]])
     }),
     ("check_usual", "two cranes taken as three", |given, came| {
-        came.say_for(given, 3, 4)
+        came.say_for(given, [USUAL[0] + 1, USUAL[1]])
     }),
     (
         "check_usual",
         "two cranes taken as two drawings",
-        |given, came| {
-            if came.answered() {
-                let list = counted(given.first, 2, 4, drawings, different);
-                came.say(given.second == list);
-            }
-        },
+        |given, came| came.say_counted(given, drawings, different),
+    ),
+    (
+        "check_usual",
+        "yes to the former list too",
+        |given, came| came.say_yes_for(given, FORMER),
     ),
     (
         "check_usual",
         "yes to a list that ends early",
-        |given, came| {
-            came.say_yes(given, |list, right| {
-                !list.is_empty() && right.starts_with(list)
-            })
-        },
+        yes_to_early_end,
     ),
+    ("check_usual", "yes to a list that goes on", yes_to_more),
     (
         "check_usual",
-        "yes to a list that goes on",
-        |given, came| came.say_yes(given, |list, right| list.starts_with(right)),
+        "yes with a wrong support",
+        yes_to_any_support,
     ),
-    ("check_usual", "yes with a wrong support", |given, came| {
-        came.say_yes(given, |list, right| alike(list, right, unsupported))
-    }),
     ("check_usual", "yes always", |_, came| came.say(true)),
+    ("check_usual", "no to a list without entries", no_to_empty),
+    ("check_usual", "18 told as no", no_for_length),
     (
         "check_usual",
-        "no to a list without entries",
+        "18 before what is wrong with the survey",
+        length_before_survey,
+    ),
+    (
+        "check_four",
+        "six cables, as check_usual has it",
+        |given, came| came.say_for(given, USUAL),
+    ),
+    ("check_four", "four cables taken as three", |given, came| {
+        came.say_for(given, [FORMER[0], FORMER[1] - 1])
+    }),
+    ("check_four", "four cables taken as five", |given, came| {
+        came.say_for(given, [FORMER[0], FORMER[1] + 1])
+    }),
+    ("check_four", "two cranes taken as one", |given, came| {
+        came.say_for(given, [FORMER[0] - 1, FORMER[1]])
+    }),
+    ("check_four", "two cranes taken as three", |given, came| {
+        came.say_for(given, [FORMER[0] + 1, FORMER[1]])
+    }),
+    (
+        "check_four",
+        "two cranes taken as two drawings",
+        |given, came| came.say_counted(given, drawings, different),
+    ),
+    ("check_four", "yes to the usual list too", |given, came| {
+        came.say_yes_for(given, USUAL)
+    }),
+    (
+        "check_four",
+        "entries of over four cables passed over",
+        |given, came| came.say_yes(given, |list, right| few_cables(list, FORMER[1]) == right),
+    ),
+    (
+        "check_four",
+        "no where over four cables recur",
         |given, came| {
-            if given.second.is_empty() {
+            if came.answered() && right(given.first, USUAL) != right(given.first, FORMER) {
                 came.say(false);
             }
         },
     ),
-    ("check_usual", "18 told as no", |_, came| {
-        if came.refusal() == 18 {
-            *came.returned = 0;
-        }
-    }),
     (
-        "check_usual",
+        "check_four",
+        "yes to a list that ends early",
+        yes_to_early_end,
+    ),
+    ("check_four", "yes to a list that goes on", yes_to_more),
+    ("check_four", "yes with a wrong support", yes_to_any_support),
+    ("check_four", "yes always", |_, came| came.say(true)),
+    ("check_four", "no always", |_, came| came.say(false)),
+    ("check_four", "no to a list without entries", no_to_empty),
+    ("check_four", "18 told as no", no_for_length),
+    (
+        "check_four",
+        "18 for an entry of over four cables",
+        |given, came| {
+            let is_more = |entry: &[u8]| u32::from(entry[0]) > FORMER[1];
+            if came.answered() && given.second.chunks(42).any(is_more) {
+                came.refuse(18, 0);
+            }
+        },
+    ),
+    (
+        "check_four",
+        "15 for a list that is short",
+        |given, came| {
+            if came.answered() && given.second.len() < right(given.first, FORMER).len() {
+                came.refuse(15, 0);
+            }
+        },
+    ),
+    (
+        "check_four",
         "18 before what is wrong with the survey",
-        |given, came| came.refuse_length_first(given, &[1, 2, 3, 4, 5, 6, 7, 8, 14]),
+        length_before_survey,
+    ),
+    (
+        "check_four",
+        "the drawing at fault not told",
+        drawing_not_told,
     ),
 ];

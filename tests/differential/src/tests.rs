@@ -1,5 +1,5 @@
 //! The other implementation by itself, on the drawings that the paper works out.
-use crate::catalogue::{self, each_its_crane, Codes, Entry, Sheet};
+use crate::catalogue::{self, each_its_crane, Codes, Entry, Sheet, FORMER, USUAL};
 use crate::code::{self, Code, Record};
 use crate::cranes::OLD_RECORD;
 use crate::drawing::{Cable, Drawing, CRANE_AT, RECORD};
@@ -253,8 +253,41 @@ fn the_crane_is_no_part_of_a_drawing() {
 
 /// The text of the other implementation's usual catalogue.
 fn usual_text(survey: &[u8]) -> String {
-    let sheets = catalogue::read(survey, 2, 4).ok().expect("accepted");
-    catalogue::text(&Codes::default().catalogue(&sheets, 2, 4))
+    let entries = Codes::default().of_survey(survey, USUAL).ok();
+    catalogue::text(&entries.expect("accepted"))
+}
+
+/// Request R-6: the text of D12 is that of before.
+#[test]
+fn the_usual_catalogue_of_the_paper() {
+    let text = usual_text(&each_its_crane(&[plain(PATH), plain(TRIANGLE)]));
+    let lines = ["2 0-1:1.5.1", "2 0-1:1.5.1 1-2:1.5.1", "2 patterns", ""];
+    assert_eq!(text, lines.join("\n"));
+    assert_eq!(text, include_str!("../../../crates/catalogue/stdout"));
+}
+
+/// Request R-6: of drawings on two cranes the numbers of cables of the patterns that are listed, at the usual and at the former settings.
+#[test]
+fn the_usual_and_the_former_catalogue() {
+    let cables = |drawing: &Drawing, settings| {
+        let survey = each_its_crane(&[drawing.clone(), drawing.clone()]);
+        let entries = Codes::default().of_survey(&survey, settings).ok();
+        let codes = entries.expect("accepted").into_iter();
+        codes.map(|entry| entry.code.len()).collect::<Vec<_>>()
+    };
+    let path = |cables: usize| plain(&(0..cables).map(|v| (v, v + 1)).collect::<Vec<_>>());
+    let ring = plain(&[0, 1, 2, 3, 4, 5].map(|v| (v, (v + 1) % 6)));
+    for (drawing, usual, former) in [
+        (path(3), 3, 3),
+        (path(4), 4, 4),
+        (path(5), 5, 4),
+        (path(6), 6, 4),
+        (path(7), 6, 4),
+        (ring, 6, 4),
+    ] {
+        assert_eq!(cables(&drawing, USUAL), (1..=usual).collect::<Vec<_>>());
+        assert_eq!(cables(&drawing, FORMER), (1..=former).collect::<Vec<_>>());
+    }
 }
 
 /// The example that ships.
@@ -271,7 +304,8 @@ fn the_catalogue_of_the_old_survey() {
     let records = survey.chunks(OLD_RECORD);
     let drawing = |record: &[u8]| Drawing::read(&[record, &[0]].concat()).expect("accepted");
     let drawings: Vec<Drawing> = records.map(drawing).collect();
-    let entries = Codes::default().catalogue_of_drawings(&drawings, 2, 4);
+    let [threshold, limit] = USUAL.map(|number| number as usize);
+    let entries = Codes::default().catalogue_of_drawings(&drawings, threshold, limit);
     let text = catalogue::text(&entries);
     assert_eq!(text, include_str!("../../../examples/old.catalogue"));
     assert_eq!(text, usual_text(&each_its_crane(&drawings)));
@@ -284,7 +318,7 @@ const ROOM: usize = 1560;
 /// What the program has to print of its input.
 fn printed(input: &[u8]) -> String {
     let survey = &input[..input.len().min(READ)];
-    match Codes::default().of_survey(survey, 2, 4) {
+    match Codes::default().of_survey(survey, USUAL) {
         Err(refused) if (2..=8).contains(&refused.number) => {
             format!("refused {} drawing {}\n", refused.number, refused.at)
         }
@@ -310,11 +344,20 @@ fn every_case_of_the_program() {
     assert!(tried > 0);
 }
 
-/// As many patterns as the program has room for.
+/// Surveys with as many patterns as the program has room for, and with one more; and one that had as many while four cables were usual.
 #[test]
 fn the_most_patterns() {
-    let text = include_str!("../../program/cases/most_patterns.out");
-    assert!(text.ends_with("\n1560 patterns\n"));
+    let patterns = |survey: &[u8], settings| {
+        let entries = Codes::default().of_survey(survey, settings).ok();
+        entries.expect("accepted").len()
+    };
+    let most = include_bytes!("../../program/cases/most_patterns.in");
+    let too_many = include_bytes!("../../program/cases/too_many_patterns.in");
+    let fits_four = include_bytes!("../../program/cases/fits_four_cables.in");
+    assert_eq!(patterns(most, USUAL), ROOM);
+    assert_eq!(patterns(too_many, USUAL), ROOM + 1);
+    assert_eq!(patterns(fits_four, FORMER), ROOM);
+    assert!(patterns(fits_four, USUAL) > ROOM);
 }
 
 #[test]

@@ -16,9 +16,11 @@ mod tests;
 
 use crate::answers::{self, Answer};
 use crate::book::of_settings;
-use crate::catalogue::{self, Codes, ENTRY};
+use crate::catalogue::{self, Codes, Entry, ENTRY, FORMER, USUAL};
 use crate::cranes::told;
+use crate::lists::told_of_settings;
 use crate::lone::{near, NONE};
+use crate::refused::Refused;
 use crate::shims::Given;
 use std::collections::BTreeSet;
 
@@ -51,6 +53,7 @@ enum Call<'a> {
     /// The list comes last.
     CheckList(&'a [u8], u16, u16, &'a [u8]),
     CheckUsual(&'a [u8], &'a [u8]),
+    CheckFour(&'a [u8], &'a [u8]),
 }
 
 /// A call as the list has it.
@@ -111,7 +114,25 @@ impl<'a> Call<'a> {
                 ..two(14, "check_list", survey, list)
             },
             Call::CheckUsual(survey, list) => two(15, "check_usual", survey, list),
+            Call::CheckFour(survey, list) => two(16, "check_four", survey, list),
         }
+    }
+
+    /// The settings of a call that writes a catalogue or checks one.
+    fn settings(&self) -> [u32; 2] {
+        match *self {
+            Call::UsualCatalogue(..) | Call::CheckUsual(..) => USUAL,
+            Call::CheckFour(..) => FORMER,
+            _ => {
+                let parts = self.parts();
+                [parts.threshold.into(), parts.limit.into()]
+            }
+        }
+    }
+
+    /// The entries that a survey has for such a call, or why it has none.
+    fn entries(&self, codes: &mut Codes, survey: &[u8]) -> Result<Vec<Entry>, Refused> {
+        codes.of_survey(survey, self.settings())
     }
 
     fn answer(&self, codes: &mut Codes, lent: &[u8]) -> Answer {
@@ -127,37 +148,40 @@ impl<'a> Call<'a> {
             Call::MatchDrawing(pattern, drawing, _) => {
                 answers::match_drawing(pattern, drawing, lent)
             }
-            Call::WriteCatalogue(survey, threshold, limit, _) => {
-                let entries = codes.of_survey(survey, threshold.into(), limit.into());
-                answers::catalogue(&entries, lent)
-            }
-            Call::UsualCatalogue(survey, _) => {
-                answers::catalogue(&codes.of_survey(survey, 2, 4), lent)
+            Call::WriteCatalogue(survey, ..) | Call::UsualCatalogue(survey, _) => {
+                answers::catalogue(&self.entries(codes, survey), lent)
             }
             Call::Book(&[a_low, a_high, b_low, b_high], limit, _) => {
                 let [a, b] = [[a_low, a_high], [b_low, b_high]].map(u16::from_le_bytes);
                 answers::catalogue(&of_settings(a.into(), b.into(), limit.into()), lent)
             }
-            Call::CheckList(survey, threshold, limit, list) => {
-                let entries = codes.of_survey(survey, threshold.into(), limit.into());
-                answers::check_list(&entries, list)
-            }
-            Call::CheckUsual(survey, list) => {
-                answers::check_list(&codes.of_survey(survey, 2, 4), list)
+            Call::CheckList(survey, _, _, list)
+            | Call::CheckUsual(survey, list)
+            | Call::CheckFour(survey, list) => {
+                answers::check_list(&self.entries(codes, survey), list)
             }
         }
     }
 
-    /// What there is to tell of a list that is checked, once its survey is accepted.
-    fn told_of_list(&self, codes: &mut Codes) -> Option<&'static str> {
-        let (survey, threshold, limit, list) = match *self {
-            Call::CheckList(survey, threshold, limit, list) => (survey, threshold, limit, list),
-            Call::CheckUsual(survey, list) => (survey, 2, 4, list),
-            _ => return None,
+    /// What there is to tell of a list that is checked, once its survey is accepted; by a call of settings with a name, beside these too.
+    fn told_of_list(&self, codes: &mut Codes) -> Vec<&'static str> {
+        let (survey, list, named) = match *self {
+            Call::CheckList(survey, _, _, list) => (survey, list, false),
+            Call::CheckUsual(survey, list) | Call::CheckFour(survey, list) => (survey, list, true),
+            _ => return Vec::new(),
         };
-        let entries = codes.of_survey(survey, threshold.into(), limit.into());
-        let right = catalogue::bytes(&entries.ok()?);
-        Some(crate::lists::told(list, &right))
+        let mut right = |settings| {
+            let entries = codes.of_survey(survey, settings).ok()?;
+            Some(catalogue::bytes(&entries))
+        };
+        let [Some(right), Some(usual), Some(former)] =
+            [self.settings(), USUAL, FORMER].map(&mut right)
+        else {
+            return Vec::new();
+        };
+        let by_name = told_of_settings(list, &usual, &former).filter(|_| named);
+        let told = crate::lists::told(list, &right);
+        by_name.into_iter().chain([told]).collect()
     }
 }
 
@@ -268,7 +292,7 @@ impl List {
         let lent = vec![LENT; parts.lent.unwrap_or(0)];
         let answer = call.answer(&mut self.codes, &lent);
         self.note(parts.word, &parts, &lent, &answer);
-        if let Some(told) = call.told_of_list(&mut self.codes) {
+        for told in call.told_of_list(&mut self.codes) {
             self.beside_lists
                 .insert((parts.word, Seen::of(&answer, told)));
         }

@@ -1,6 +1,6 @@
 //! The check's separate code by itself, held against plain comparing of bytes, which is what the request says.
 use super::*;
-use crate::catalogue::{self, Codes, Sheet};
+use crate::catalogue::{self, Codes, Sheet, FORMER, USUAL};
 use crate::generate::{self, plain, Shape};
 use std::collections::BTreeSet;
 
@@ -47,6 +47,47 @@ fn right_is_equal_byte_for_byte() {
     let all = ANSWERS.iter().flat_map(|(_, told)| told.iter());
     let all: BTreeSet<&str> = all.chain(REFUSED).copied().collect();
     assert_eq!(seen, all);
+}
+
+/// Of a path on two cranes the first entries, one for each number of cables: those of the usual catalogue, of the former one, and no others.
+#[test]
+fn lists_of_settings_with_a_name() {
+    for (cables, usual, former) in [(4, 4, 4), (5, 5, 4), (6, 6, 4), (8, 6, 4)] {
+        let path: Vec<(usize, usize)> = (0..cables).map(|v| (v, v + 1)).collect();
+        let survey = catalogue::each_its_crane(&[plain(&path), plain(&path)]);
+        let mut list = |settings| {
+            let entries = Codes::default().of_survey(&survey, settings);
+            catalogue::bytes(&entries.ok().expect("accepted"))
+        };
+        let all = list([2, 8]);
+        let right = [USUAL, FORMER].map(&mut list);
+        for entries in 0..=cables {
+            let told = told_of_settings(&all[..entries * ENTRY], &right[0], &right[1]);
+            let due = match (entries == usual, entries == former) {
+                (true, true) => Some(AT_BOTH),
+                (true, false) => Some(AT_USUAL),
+                (false, true) => Some(AT_FORMER),
+                (false, false) => None,
+            };
+            assert_eq!(told, due, "{entries} of {cables}");
+        }
+    }
+    assert_eq!(told_of_settings(&[], &[], &[]), None);
+}
+
+/// The entries of few cables stay as they are and where they are.
+#[test]
+fn lists_of_few_cables() {
+    let star = plain(&[(0, 1), (1, 2), (1, 3)]);
+    let entries = Codes::default().catalogue_of_drawings(&[star], 1, 4);
+    let list = catalogue::bytes(&entries);
+    let cables: Vec<usize> = entries.iter().map(|entry| entry.code.len()).collect();
+    assert_eq!(cables, [1, 2, 3]);
+    let turned: Vec<u8> = list.chunks(ENTRY).rev().flatten().copied().collect();
+    assert_eq!(few_cables(&list, 0), []);
+    assert_eq!(few_cables(&list, 2), list[..2 * ENTRY]);
+    assert_eq!(few_cables(&turned, 2), turned[ENTRY..]);
+    assert_eq!(few_cables(&list, 3), list);
 }
 
 /// D12, entry by entry.

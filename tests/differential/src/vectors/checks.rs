@@ -16,6 +16,13 @@ pub struct Asked<'a> {
     pub limit: u16,
 }
 
+/// The check of a survey and a list at settings that have a name, and that name.
+pub(super) type Named = (&'static str, for<'a> fn(&'a [u8], &'a [u8]) -> Call<'a>);
+pub(super) const NAMED: [Named; 2] = [
+    ("usual", |survey, list| Call::CheckUsual(survey, list)),
+    ("former", |survey, list| Call::CheckFour(survey, list)),
+];
+
 fn read(record: &[u8]) -> Drawing {
     Drawing::read(record).expect("an accepted drawing")
 }
@@ -92,8 +99,8 @@ impl List {
     }
 
     pub fn entries(&mut self, asked: &Asked) -> Vec<Entry> {
-        let (threshold, limit) = (asked.threshold.into(), asked.limit.into());
-        let entries = self.codes.of_survey(asked.survey, threshold, limit);
+        let settings = [asked.threshold.into(), asked.limit.into()];
+        let entries = self.codes.of_survey(asked.survey, settings);
         entries.expect("an accepted survey")
     }
 
@@ -181,7 +188,9 @@ impl List {
     /// Every call that checks a list refuses this survey, whatever the list is: a byte is none.
     pub fn put_refused_check(&mut self, name: &str, survey: &[u8], wanted: Refused) {
         self.assert_refused(name, Call::CheckList(survey, 1, 2, &[1]), wanted);
-        self.assert_refused(name, Call::CheckUsual(survey, &[1]), wanted);
+        for (_, check) in NAMED {
+            self.assert_refused(name, check(survey, &[1]), wanted);
+        }
     }
 
     pub fn put_refused_settings(&mut self, name: &str, asked: &Asked, number: u8) {
@@ -195,10 +204,15 @@ impl List {
         assert_eq!(self.put(name, call).said, wanted, "{name}");
     }
 
-    /// Whether it is the usual one.
-    pub fn put_usual_check(&mut self, name: &str, survey: &[u8], list: &[u8], wanted: &str) {
-        let call = Call::CheckUsual(survey, list);
-        assert_eq!(self.put(name, call).said, wanted, "{name}");
+    /// Whether it is the one of settings with a name.
+    pub(super) fn put_named_check(
+        &mut self,
+        name: &str,
+        (_, check): Named,
+        (survey, list): (&[u8], &[u8]),
+        wanted: &str,
+    ) {
+        assert_eq!(self.put(name, check(survey, list)).said, wanted, "{name}");
     }
 
     /// What the settings or the length of a list are refused with.
@@ -207,8 +221,13 @@ impl List {
         self.assert_refused(name, call, Refused::of(number));
     }
 
-    pub fn put_refused_usual_list(&mut self, name: &str, survey: &[u8], list: &[u8]) {
-        let call = Call::CheckUsual(survey, list);
-        self.assert_refused(name, call, Refused::of(18));
+    pub(super) fn put_refused_named_list(
+        &mut self,
+        name: &str,
+        (_, check): Named,
+        survey: &[u8],
+        list: &[u8],
+    ) {
+        self.assert_refused(name, check(survey, list), Refused::of(18));
     }
 }

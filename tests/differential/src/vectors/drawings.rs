@@ -59,11 +59,11 @@ pub fn put(list: &mut List) {
     for (least, support) in [("01151", 2), ("01151 12151", 2), ("01151 12151 20151", 1)] {
         list.assert_entry(&d12, &code(least), support, None);
     }
-    let usual = Asked {
+    let frequent = Asked {
         threshold: 2,
         ..d12
     };
-    assert_eq!(list.put_catalogue("D12 with s 2", &usual), 2);
+    assert_eq!(list.put_catalogue("D12 with s 2", &frequent), 2);
     let single = Asked { limit: 1, ..d12 };
     assert_eq!(list.put_catalogue("D12 with L 1", &single), 1);
     list.put("D12", Call::UsualCatalogue(&survey, 2 * 42 + 2));

@@ -3,6 +3,7 @@
 use super::checks::Asked;
 use super::notation::{code, drawing, survey};
 use super::{Call, List};
+use crate::catalogue::ENTRY;
 use crate::drawing::RECORD;
 use crate::refused::Refused;
 
@@ -196,6 +197,23 @@ fn put_surveys(list: &mut List, fine: &[u8]) {
     list.put_fetches("survey of one", fine, [0, 1, 65535]);
 }
 
+/// The usual catalogue ends at six cables, though there is room for a seventh entry; the ring of six is the last that it has.
+fn put_usual_limit(list: &mut List) {
+    let five = drawing("111111", "015 125 235 345 455");
+    let ring = drawing("111111", "015 125 235 345 455 505");
+    let seven = drawing("11111111", "015 125 235 345 455 565 675");
+    for (name, record, room, answer) in [
+        ("path of 5 cables twice", &five, 5, (0, 5)),
+        ("path of 7 cables twice", &seven, 7, (0, 6)),
+        ("path of 7 cables twice, room for 5", &seven, 5, (15, 0)),
+        ("ring of 6 cables twice", &ring, 6, (0, 6)),
+    ] {
+        let survey = survey(&[record, record]);
+        let usual = list.put(name, Call::UsualCatalogue(&survey, room * ENTRY));
+        assert_eq!((usual.refused.number, usual.count), answer, "{name}");
+    }
+}
+
 /// One byte short, and just enough.
 fn put_lent(list: &mut List) {
     let d5 = drawing("1111", "015 125 205 235");
@@ -239,13 +257,7 @@ fn put_lent(list: &mut List) {
         );
         assert_eq!(answer.refused.number, refused(84, lent));
     }
-    // The usual catalogue ends at four cables, though there is room for a fifth entry.
-    let path = drawing("111111", "015 125 235 345 455");
-    let usual = list.put(
-        "path of 5 cables twice",
-        Call::UsualCatalogue(&survey(&[&path, &path]), 5 * 42),
-    );
-    assert_eq!((usual.refused.number, usual.count), (0, 4));
+    put_usual_limit(list);
     // Nothing is frequent, so no room is too little.
     let none = list.put("D12, no entry", Call::WriteCatalogue(&d12, 3, 8, 0));
     assert_eq!((none.refused.number, none.count), (0, 0));

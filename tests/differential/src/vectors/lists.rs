@@ -1,6 +1,6 @@
 //! Lists made elsewhere, request R-5: the right one, and lists that are wrong in one thing; lengths that are refused, and what is told before
-//! them; lists of other settings and of other surveys; lists without entries; the usual check.
-use super::checks::Asked;
+//! them; lists of other settings and of other surveys; lists without entries; the checks at the usual and at the former settings, request R-6.
+use super::checks::{Asked, Named, NAMED};
 use super::notation::{code, drawing, sheet, survey};
 use super::List;
 use crate::catalogue::{self, ENTRY};
@@ -199,14 +199,11 @@ fn put_largest(list: &mut List) {
     list.put_check("thirty-two times D3", &asked(&survey, 32, 8), &right, YES);
 }
 
-/// At least two cranes, at most four cables.
-fn put_usual(list: &mut List) {
+/// At least two cranes. No pattern has over four cables, so that the usual and the former settings have the same list.
+fn put_named(list: &mut List, named: Named) {
     let d12 = d12();
     let all = d12_entries().concat();
     let (two, last) = (all[..2 * ENTRY].to_vec(), all[ENTRY..2 * ENTRY].to_vec());
-    let path = plain(&[0, 1, 2, 3, 4].map(|v| (v, v + 1))).record();
-    let paths = survey(&[&path, &path]);
-    let [three, four, five] = [3, 4, 5].map(|limit| list.right(&asked(&paths, 2, limit)));
     let (d3, seven) = (d3(), drawing("7", ""));
     let among = survey(&[&d3, &seven, &d3]);
     for (name, survey, given, wanted) in [
@@ -222,9 +219,6 @@ fn put_usual(list: &mut List) {
         ("D12, last twice", &d12, [&two[..], &last].concat(), NO),
         ("D12, zeros", &d12, [&two[..], &[0; ENTRY]].concat(), NO),
         ("D12, rubbish", &d12, vec![9; ENTRY], NO),
-        ("paths", &paths, four, YES),
-        ("paths, L 3", &paths, three, NO),
-        ("paths, L 5", &paths, five, NO),
         ("D3", &d3, vec![], YES),
         ("one crane", &d3.repeat(2), vec![], YES),
         ("one crane, by drawings", &d3.repeat(2), two.clone(), NO),
@@ -233,7 +227,8 @@ fn put_usual(list: &mut List) {
         ("D3 among lone", &among, two.clone(), YES),
         ("D3 among lone, none", &among, vec![], NO),
     ] {
-        list.put_usual_check(&format!("usual list of {name}"), survey, &given, wanted);
+        let name = format!("{} list of {name}", named.0);
+        list.put_named_check(&name, named, (survey, &given), wanted);
     }
     for (name, survey, given) in [
         ("D12, a byte more", &d12, [&two[..], &[0]].concat()),
@@ -241,7 +236,34 @@ fn put_usual(list: &mut List) {
         ("lone, a byte", &seven, vec![0]),
         ("D3 among lone, a byte", &among, vec![1]),
     ] {
-        list.put_refused_usual_list(&format!("usual list of {name}"), survey, &given);
+        let name = format!("{} list of {name}", named.0);
+        list.put_refused_named_list(&name, named, survey, &given);
+    }
+}
+
+/// A path or a ring on two cranes has a pattern for each number of cables: the usual list has those of up to six, the former one those of up to four.
+/// Each list of so many entries is checked at both settings.
+fn put_more_cables(list: &mut List) {
+    let five = plain(&[0, 1, 2, 3, 4].map(|v| (v, v + 1)));
+    let ring = plain(&[0, 1, 2, 3, 4, 5].map(|v| (v, (v + 1) % 6)));
+    let seven = plain(&[0, 1, 2, 3, 4, 5, 6].map(|v| (v, v + 1)));
+    for (name, drawing, [usual, former], most) in [
+        ("path of 5 cables", five, [5, 4], 5),
+        ("ring of 6 cables", ring, [6, 4], 6),
+        ("path of 7 cables", seven, [6, 4], 7),
+    ] {
+        let record = drawing.record();
+        let survey = survey(&[&record, &record]);
+        let all = list.right(&asked(&survey, 2, most));
+        assert_eq!(all.len(), usize::from(most) * ENTRY);
+        for entries in 3..=usize::from(most) {
+            let name = format!("{name}, list of {entries}");
+            let given = &all[..entries * ENTRY];
+            for (named, right) in NAMED.into_iter().zip([usual, former]) {
+                let wanted = if entries == right { YES } else { NO };
+                list.put_named_check(&name, named, (&survey, given), wanted);
+            }
+        }
     }
 }
 
@@ -290,6 +312,9 @@ pub fn put(list: &mut List) {
     put_cranes(list);
     put_empty(list);
     put_largest(list);
-    put_usual(list);
+    for named in NAMED {
+        put_named(list, named);
+    }
+    put_more_cables(list);
     put_refused(list);
 }

@@ -58,12 +58,12 @@ fn put_extensions(list: &mut List) {
     }
     assert_eq!(list.put_catalogue("000 two graphs, s 1, L 8", &all), 21);
     list.put_catalogue("000 two graphs, s 1, L 3", &Asked { limit: 3, ..all });
-    let usual = Asked {
+    let both = Asked {
         threshold: 2,
         limit: 4,
         ..all
     };
-    assert_eq!(list.put_catalogue("000 two graphs, s 2, L 4", &usual), 10);
+    assert_eq!(list.put_catalogue("000 two graphs, s 2, L 4", &both), 10);
 
     let many = Asked {
         survey: &survey(&[&g1, &g2, &g1, &g2, &chain(150), &chain(200)]),

@@ -103,6 +103,13 @@ const ROWS: &[Row] = &[
         IN_A_SURVEY,
         LATER,
     ),
+    (
+        "check_four",
+        &["yes", "no"],
+        &[OF_A_SURVEY, IN_A_SURVEY, OF_A_LIST],
+        IN_A_SURVEY,
+        LATER,
+    ),
 ];
 
 /// A call, its answers of lone devices, and what is lone.
@@ -131,6 +138,8 @@ const LONE_ANSWERS: &[(&str, &[&str], &str)] = &[
     ("check_list", &["yes", "no"], ALL_LONE),
     ("check_usual", &["yes", "no"], SOME_LONE),
     ("check_usual", &["yes", "no"], ALL_LONE),
+    ("check_four", &["yes", "no"], SOME_LONE),
+    ("check_four", &["yes", "no"], ALL_LONE),
 ];
 
 /// Near a lone device drawings are refused with 3 and 7, codes with 10 and 11.
@@ -156,8 +165,10 @@ const LONE_REFUSALS: &[(&str, &[(u8, &str)], &[&str])] = &[
     ("usual_catalogue", &[(15, SOME_LONE)], &[FIRST]),
     ("check_list", LONE_DRAWINGS, &[FIRST, LATER]),
     ("check_usual", LONE_DRAWINGS, &[FIRST, LATER]),
+    ("check_four", LONE_DRAWINGS, &[FIRST, LATER]),
     ("check_list", &[(18, SOME_LONE), (18, ALL_LONE)], &[FIRST]),
     ("check_usual", &[(18, SOME_LONE), (18, ALL_LONE)], &[FIRST]),
+    ("check_four", &[(18, SOME_LONE), (18, ALL_LONE)], &[FIRST]),
 ];
 
 #[test]
@@ -218,6 +229,7 @@ const CRANE_ANSWERS: &[(&str, &[&str], &[&str])] = &[
     ("check_list", &["yes"], OF_SHEETS),
     ("check_list", &["yes", "no"], &[ONE_CRANE, TOO_FEW]),
     ("check_usual", &["yes", "no"], &[ONE_CRANE, TOO_FEW]),
+    ("check_four", &["yes", "no"], &[ONE_CRANE, TOO_FEW]),
 ];
 
 /// A call, its refusal beside cranes, whose it is, and what there is to tell.
@@ -233,6 +245,7 @@ const CRANE_REFUSALS: &[(&str, u8, &[&str], &str)] = &[
     ("usual_catalogue", 1, &[FIRST], OLD),
     ("check_list", 1, &[FIRST], OLD),
     ("check_usual", 1, &[FIRST], OLD),
+    ("check_four", 1, &[FIRST], OLD),
 ];
 
 #[test]
@@ -252,11 +265,14 @@ fn every_outcome_beside_cranes_is_listed() {
     assert!(missing.is_empty(), "{missing:?}");
 }
 
-/// Beside a list of every kind, in either check.
+/// Beside a list of every kind, in each check; beside lists that are right at settings with a name, in the checks at these.
 #[test]
 fn every_outcome_beside_lists_is_listed() {
     let mut wanted = BTreeSet::new();
-    for call in ["check_list", "check_usual"] {
+    for &(call, said, told) in lists::NAMED_ANSWERS {
+        wanted.extend(told.iter().map(|&near| (call, Seen::Answer(said, near))));
+    }
+    for call in lists::CHECKS {
         for &(said, told) in lists::ANSWERS {
             wanted.extend(told.iter().map(|&near| (call, Seen::Answer(said, near))));
         }

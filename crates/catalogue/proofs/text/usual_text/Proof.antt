@@ -23,7 +23,7 @@ returns c =
     let known = c .before .before .before .before .before in
     let u = known .before .before .usual-catalogue in
     let a = known .before .before .before .before .before .before .before .args in
-    survey-text-made (a .survey .now) 2 4 (omega arith) (u .result) (a .entries .now) (u .last .1 .0) (u .ensures)
+    survey-text-made (a .survey .now) _ _ (omega arith) (u .result) (a .entries .now) (u .last .1 .0) (u .ensures)
     (omega arith) (omega arith) (u .kept .1 .0) (λ i. known .slice-known3 .given i .fits)
     (w .result) (a .text .now) (w .last .1 .1 .0) (w .ensures)
 

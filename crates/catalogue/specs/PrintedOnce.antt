@@ -6,7 +6,6 @@ use Prim.Native.Nat.{ℕ}
 use lib.ListN.{length, take}
 use Rattle.graphs.specs.Survey as surveys
 use Rattle.graphs.specs.Survey.{length-refusal, bytes-refusal, survey-refusal}
-use Rattle.growth.specs.Catalogue.{Often-in, support-of}
 use Rattle.mining.specs.UsualSettings.{usual}
 use Rattle.text_lines.specs.Texts.{refusal-text}
 use Rattle.printing.specs.ListTextLaws.{whole-text-once}

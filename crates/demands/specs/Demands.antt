@@ -37,7 +37,7 @@ use Rattle.codes.specs.SectionCode.{
   Least-section,
 }
 use Rattle.codes.specs.SectionBytes.{records-accepted}
-use Rattle.growth.specs.Catalogue.{Entry, Catalogue, entries-within}
+use Rattle.growth.specs.Catalogue.{Entry, Catalogue, entries-within, entries-up-to}
 use Rattle.records.specs.declared.refusal.Refusal.the-variants as refusal
 use Rattle.records.specs.declared.refusal.Checked.{Checked}
 use Rattle.records.specs.declared.refusal.Checked.the-variants.{Accepted, Refused}
@@ -92,7 +92,6 @@ use Rattle.holvreiz.specs.Returns.{
 use Rattle.demands.specs.Terms.{
   written-bytes,
   written-entries,
-  entries-up-to,
   too-short,
   Refused-as,
   Survey-refused,

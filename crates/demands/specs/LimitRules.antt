@@ -4,7 +4,6 @@ use mathlib.Core.Path.{_≡_, sym, ap, ap₂, subst, _∙_}
 use mathlib.Core.List.{List, [], _++_, append-nil}
 use Prim.Native.Nat.{ℕ, _/_, _≤_}
 use native.Mathlib.Omega.{arith}
-use lib.Dec.{leb}
 use lib.ListN.{length, drop}
 use borrow.Author.Tests.{le-leb}
 use Rattle.laws.specs.Passing.{passing-length}
@@ -12,7 +11,18 @@ use Rattle.graphs.specs.Drawing.{Drawing}
 use Rattle.graphs.specs.Survey.{survey, cranes, survey-refusal}
 use Rattle.codes.specs.Code.{kinds-before}
 use Rattle.codes.specs.CodeOrder.{kinds-order}
-use Rattle.growth.specs.Catalogue.{Entry, Catalogue, Often, support-in, Often-in, support-of, entries-within, all-bytes}
+use Rattle.growth.specs.Catalogue.{
+  Entry,
+  Catalogue,
+  Often,
+  support-in,
+  Often-in,
+  support-of,
+  few-cables,
+  entries-within,
+  all-bytes,
+  entries-up-to,
+}
 use Rattle.growth.specs.SmallerLimits.{list-within, list-smaller, entry-bytes-within}
 use Rattle.growth.specs.Settings.{accepted-settings}
 use Rattle.records.specs.declared.catalogued.Catalogued.{Catalogued}
@@ -21,7 +31,7 @@ use Rattle.records.specs.declared.list_checked.ListChecked.{ListChecked}
 use Rattle.records.specs.declared.list_checked.ListChecked.the-variants.{Yes}
 use Rattle.mining.specs.CatalogueSays.{Catalogue-says}
 use Rattle.mining.specs.CheckSays.{Check-says}
-use Rattle.demands.specs.Terms.{written-entries, entries-up-to}
+use Rattle.demands.specs.Terms.{written-entries, Catalogue-refused}
 use Rattle.demands.specs.RefusedLaws.{catalogue-turned-back}
 use Rattle.demands.specs.WholeLists.{Finished, finished}
 use Rattle.demands.specs.WholeCatalogues.{entries-accepted}
@@ -75,10 +85,10 @@ module _ (bs : List ℕ) (s l m : ℕ) (low : l ≤ m) where
         → (n : ℕ) × (r ≡ Entries n) × (n ≤ k)
     room-within k o p w z r u h v =
         let f : Finished (Often-in bs s) (support-of bs) m k o w = finished (Often-in bs s) (support-of bs) m (survey-refusal bs s m) k o w u in
-        let fewer : length (entries-within l (f .es)) ≤ length (f .es) = passing-length (λ (e : Entry). leb (length (e .code)) l) (f .es) in
-        let t =
-        catalogue-turned-back bs s l r p z v .enough (fine-within (entries-accepted bs s m k o w u)) (entries-within l (f .es))
-        (fewer-catalogue (f .es) (f .list)) (omega (arith, f .room)) in
+        let fine = fine-within (entries-accepted bs s m k o w u) in
+        let fewer : length (entries-within l (f .es)) ≤ length (f .es) = passing-length (few-cables l) (f .es) in
+        let told : Catalogue-refused bs s l r p z = catalogue-turned-back bs s l r p z v in
+        let t = told .enough fine (entries-within l (f .es)) (fewer-catalogue (f .es) (f .list)) (omega (arith, f .room)) in
         (length (entries-within l (f .es)), t .0, omega (arith, f .count))
 
     -- CHECKED: where a list is right with the greater limit, a list is right with the smaller exactly if it is the entries of at most l cables

@@ -5,13 +5,12 @@ use mathlib.Core.Bool.{Bool, true, false, cond}
 use mathlib.Core.List.{List, [], _∷_, _++_}
 use mathlib.Core.Logic.{_⊎_}
 use Prim.Native.Nat.{ℕ, _*_, _/_, _%_, _≤_, _<_}
-use lib.Dec.{leb, ltb}
+use lib.Dec.{ltb}
 use lib.ListN.{length, getD, take, drop, replicate}
 use denote.Ref.{RefT, now}
-use Rattle.laws.specs.Lists.{Mem, concat}
-use Rattle.laws.specs.Passing.{passing}
+use Rattle.laws.specs.Lists.{Mem}
 use Rattle.laws.specs.Counting.{Different}
-use Rattle.laws.specs.Rows.{row, rows}
+use Rattle.laws.specs.Rows.{row}
 use Rattle.graphs.specs.Drawing.{Drawing, devices, kind, drawing-in, crane-in, drawing-bytes}
 use Rattle.graphs.specs.Map.{map-before}
 use Rattle.graphs.specs.Graph.{Section}
@@ -51,10 +50,6 @@ written-bytes (written.Refused r) z = []
 -- and those of the n entries that a catalogue has
 abbrev pub written-entries : (n : ℕ) → (out-now : List ℕ) → List ℕ
 written-entries n z = take (42 * n) z
-
--- of the n entries in front, those of at most l cables, in their order: byte 0 of an entry is its number of cables
-abbrev pub entries-up-to : (l n : ℕ) → (out-now : List ℕ) → List ℕ
-entries-up-to l n z = concat (passing (λ (r : List ℕ). leb (getD r 0 0) l) (rows 42 n z))
 
 -- 15: too short for the whole answer
 abbrev pub too-short : (needed : ℕ) → (out : List ℕ) → ℕ

@@ -5,10 +5,11 @@ use mathlib.Core.Bool.{Bool, true}
 use mathlib.Core.List.{List, [], _∷_, _++_, map}
 use Prim.Native.Nat.{ℕ, _*_, _-_, _≤_}
 use lib.Dec.{leb}
-use lib.ListN.{length, replicate}
+use lib.ListN.{length, getD, replicate}
 use Rattle.laws.specs.Lists.{Mem, concat}
 use Rattle.laws.specs.Passing.{passing}
 use Rattle.laws.specs.Rising.{Rises}
+use Rattle.laws.specs.Rows.{rows}
 use Rattle.graphs.specs.Drawing.{Drawing, is-pattern, byte-list}
 use Rattle.graphs.specs.Survey.{survey, cranes, survey-refusal, support}
 use Rattle.codes.specs.Code.{Rec, rec-bytes, before-by, Least-by, kinds-before}
@@ -39,8 +40,11 @@ pub record List-of (labels : Rec → Rec → Bool) (Wanted : Drawing → Type 0)
       → Mem (entry (figure p) rs) es
 
 -- the entries of at most l cables, in their order: a code has a record for each cable
+abbrev pub few-cables : (l : ℕ) → Entry → Bool
+few-cables l e = leb (length (e .code)) l
+
 abbrev pub entries-within : (l : ℕ) → List Entry → List Entry
-entries-within l = passing (λ e. leb (length (e .code)) l)
+entries-within l = passing (few-cables l)
 
 -- A CATALOGUE: the patterns that drawings of at least s cranes contain, each with its support. `cr` has the crane of each drawing.
 abbrev pub Often : (cr : List ℕ) (ds : List Drawing) (s : ℕ) → Drawing → Type 0
@@ -71,6 +75,10 @@ entry-bytes e = (length (e .code) ∷ e .support ∷ []) ++ rec-bytes (e .code) 
 
 unfoldable pub all-bytes : List Entry → List ℕ
 all-bytes es = concat (map entry-bytes es)
+
+-- of n entries as bytes, those of at most l cables: byte 0 is the number of cables
+abbrev pub entries-up-to : (l n : ℕ) → (bytes : List ℕ) → List ℕ
+entries-up-to l n bs = concat (passing (λ (r : List ℕ). leb (getD r 0 0) l) (rows 42 n bs))
 
 -- THE STATEMENT: each accepted survey has just one catalogue
 unfoldable pub Catalogue-there : Type 0

@@ -17,7 +17,17 @@ use Rattle.graphs.specs.Patterns.{pattern-from-test}
 use Rattle.codes.specs.Code.{Rec, before-by, Least-by}
 use Rattle.codes.specs.CodeOrder.{Label-order}
 use Rattle.codes.specs.FullCode.{coded-from-test, coded-length}
-use Rattle.growth.specs.Catalogue.{Entry, entry, Entry-of, List-of, entries-within, entry-bytes, all-bytes}
+use Rattle.growth.specs.Catalogue.{
+  Entry,
+  entry,
+  Entry-of,
+  List-of,
+  few-cables,
+  entries-within,
+  entry-bytes,
+  all-bytes,
+  entries-up-to,
+}
 use Rattle.growth.specs.FamilyLists.{list-unique}
 use Rattle.growth.specs.EntryLaws.{entries-sized}
 
@@ -34,7 +44,7 @@ module _ (labels : Rec → Rec → Bool) (Wanted : Drawing → Type 0) (figure :
     where
       sound : (e : Entry) → Mem e (entries-within l es) → Entry-of labels Wanted figure l e
       sound e h =
-          let k = passing-from (λ (e : Entry). leb (length (e .code)) l) es h in
+          let k = passing-from (few-cables l) es h in
           let g = a .sound e (k .0) in
           record {
             pattern = g .pattern;
@@ -50,7 +60,7 @@ module _ (labels : Rec → Rec → Bool) (Wanted : Drawing → Type 0) (figure :
           → Mem (entry (figure p) rs) (entries-within l es)
       whole p rs k n q c =
           let simple : Simple p = pattern-from-test p k .simple in
-          passing-has (λ (e : Entry). leb (length (e .code)) l) es (a .whole p rs k (omega (arith, low)) q c)
+          passing-has (few-cables l) es (a .whole p rs k (omega (arith, low)) q c)
           (le-leb (length rs) l (omega (arith, coded-length p simple rs (coded-from-test p simple rs (c .code)))))
 
   -- AND IT HAS NO OTHER
@@ -58,9 +68,9 @@ module _ (labels : Rec → Rec → Bool) (Wanted : Drawing → Type 0) (figure :
       → es ≡ entries-within l gs
   list-smaller o es gs a b = list-unique labels o Wanted figure l es (entries-within l gs) a (list-within gs b)
 
--- AS BYTES: an entry's first byte is its number of cables
+-- AS BYTES, whatever stands behind them
 pub entry-bytes-within : (l : ℕ) (es : List Entry) (rest : List ℕ) → ((e : Entry) → Mem e es → length (e .code) ≤ 8)
-    → concat (passing (λ (r : List ℕ). leb (getD r 0 0) l) (rows 42 (length es) (all-bytes es ++ rest))) ≡ all-bytes (entries-within l es)
+    → entries-up-to l (length es) (all-bytes es ++ rest) ≡ all-bytes (entries-within l es)
 unfolding all-bytes entry-bytes
 entry-bytes-within l es rest h =
     ap (λ (rs : List (List ℕ)). concat (passing (λ (r : List ℕ). leb (getD r 0 0) l) rs)) cut

@@ -1,6 +1,7 @@
 // Times of coding, the least test, decoding, sameness, matching, the largest book and the checks. Every answer is looked at: a wrong one ends
-// the run.
+// the run. A library from before the least test told an agreement is measured with -DVERDICT_ALONE, which looks at its yes or no alone.
 #include "clock.hpp"
+#include "codes.hpp"
 #include "holvreiz.h"
 #include "surveys.hpp"
 #include <cstdio>
@@ -11,7 +12,13 @@ using bench::Bytes;
 struct Shape { int devices, cables, device_kinds, cable_kinds; };
 
 constexpr Shape SHAPES[] = {{10, 20, 1, 1}, {10, 20, 3, 2}, {10, 12, 1, 1}, {10, 9, 1, 1}, {10, 9, 4, 3}, {7, 8, 1, 1}, {7, 8, 3, 2}};
-constexpr int DRAWINGS = 60, PAIRS = 1200;
+constexpr int DRAWINGS = 60, PAIRS = 1200, OTHERS = 100;
+
+#ifdef VERDICT_ALONE
+constexpr bool AGREEMENT = false;
+#else
+constexpr bool AGREEMENT = true;
+#endif
 
 static void expect(bool right, const char *what) {
     if (right) return;
@@ -45,10 +52,12 @@ static double time_coding(const Bytes &drawing) {
     return bench::least_of_short([&] { holvreiz_code(drawing.data(), drawing.size(), out.data(), out.size()); });
 }
 
-static double time_least(const Bytes &code) {
+static double time_least(const Bytes &code, const Bytes &least) {
     uint64_t returned = 0;
     double time = bench::least_of_short([&] { returned = holvreiz_is_least(code.data(), code.size()); });
-    expect(returned == 1, "a least code is not called least");
+    expect(holvreiz_refusal(returned) == 0, "a code is refused");
+    expect(holvreiz_verdict(returned) == (code == least), "a least code is not called least, or another one is");
+    expect(!AGREEMENT || holvreiz_agreement(returned) == bench::agreement(code, least), "another agreement with the least code");
     return time;
 }
 
@@ -89,15 +98,20 @@ static Times match_times(bench::Random &random, const std::vector<Bytes> &drawin
     return times;
 }
 
+static std::vector<Bytes> drawings_of(bench::Random &random, const Shape &s) {
+    std::vector<Bytes> drawings;
+    for (int k = 0; k < DRAWINGS; k++) drawings.push_back(bench::drawing(random, s.devices, s.cables, s.device_kinds, s.cable_kinds));
+    return drawings;
+}
+
 static void row(const Shape &s) {
     bench::Random random(7);
-    std::vector<Bytes> drawings;
+    std::vector<Bytes> drawings = drawings_of(random, s);
     Times coding, least, decoding, same;
-    for (int k = 0; k < DRAWINGS; k++) drawings.push_back(bench::drawing(random, s.devices, s.cables, s.device_kinds, s.cable_kinds));
     for (const Bytes &drawing : drawings) {
         Bytes code = code_of(drawing);
         coding.add(time_coding(drawing));
-        least.add(time_least(code));
+        least.add(time_least(code, code));
         decoding.add(time_decoding(code));
         same.add(time_same(drawing, bench::renumbered(random, drawing)));
     }
@@ -141,9 +155,64 @@ static Bytes petersen() {
     return bench::drawing_of(std::vector<int>(10), cables);
 }
 
+// Some code of a drawing that is not its least.
+static Bytes other_code(bench::Random &random, const Bytes &drawing, const Bytes &least) {
+    for (int tries = 0; tries < 1000; tries++) {
+        Bytes code = bench::some_code(random, drawing), decoded(HOLVREIZ_DRAWING_BYTES);
+        holvreiz_decode(code.data(), code.size(), decoded.data(), decoded.size());
+        expect(code_of(decoded) == least, "a walk's code is of another drawing");
+        if (code != least) return code;
+    }
+    expect(false, "no other code is found");
+    return least;
+}
+
+// Of so many such codes the one that agrees with the least in the most records.
+static Bytes nearest_code(bench::Random &random, const Bytes &drawing, const Bytes &least) {
+    Bytes nearest = other_code(random, drawing, least);
+    for (int k = 1; k < OTHERS; k++) {
+        Bytes code = other_code(random, drawing, least);
+        if (bench::agreement(nearest, least) < bench::agreement(code, least)) nearest = code;
+    }
+    return nearest;
+}
+
+// The least test of codes that are not the least, and how far they agree with it.
+struct Others {
+    Times times;
+    double records = 0;
+
+    void add(const Bytes &code, const Bytes &least) {
+        times.add(time_least(code, least));
+        records += bench::agreement(code, least);
+    }
+    void print() const { printf("| %.2f, %.2f | %.1f ", times.mean(), times.most(), records / times.count); }
+};
+
+static void other_codes(const std::vector<Bytes> &drawings) {
+    bench::Random random(7);
+    Others any, nearest;
+    for (const Bytes &drawing : drawings) {
+        Bytes least = code_of(drawing);
+        any.add(other_code(random, drawing, least), least);
+        nearest.add(nearest_code(random, drawing, least), least);
+    }
+    any.print();
+    nearest.print();
+    printf("|\n");
+    fflush(stdout);
+}
+
+static void row_of_others(const Shape &s) {
+    bench::Random random(7);
+    printf("| %d, %d; %d, %d ", s.devices, s.cables, s.device_kinds, s.cable_kinds);
+    other_codes(drawings_of(random, s));
+}
+
 static void symmetric(const char *name, const Bytes &drawing) {
     bench::Random random(7);
-    double coding = time_coding(drawing), least = time_least(code_of(drawing));
+    Bytes code = code_of(drawing);
+    double coding = time_coding(drawing), least = time_least(code, code);
     double same = time_same(drawing, bench::renumbered(random, drawing));
     printf("| %s | %.1f | %.1f | %.1f |\n", name, 1e6 * coding, 1e6 * least, 1e6 * same);
 }
@@ -188,16 +257,24 @@ static void checks() {
     printf("| a survey of 32 such drawings | %.2f, %.2f |\n", survey.mean(), survey.most());
 }
 
+static void symmetric_others(const char *name, const Bytes &drawing) {
+    printf("| %s ", name);
+    other_codes({drawing});
+}
+
+struct Symmetric { const char *name; Bytes drawing; };
+
 int main() {
+    const Symmetric symmetrics[] = {{"star of 6 leaves", star(6)}, {"star of 9 leaves", star(9)}, {"K(2,8)", bipartite(2, 8)},
+                                    {"K(4,5)", bipartite(4, 5)}, {"K7 less one cable", near_clique()}, {"Petersen graph", petersen()}};
     printf("| devices, cables | kinds, cable kinds | code | is_least | decode | same | match |\n|---|---|---|---|---|---|---|\n");
     for (const Shape &shape : SHAPES) row(shape);
     printf("\n| drawing of one kind | code | is_least | same |\n|---|---|---|---|\n");
-    symmetric("star of 6 leaves", star(6));
-    symmetric("star of 9 leaves", star(9));
-    symmetric("K(2,8)", bipartite(2, 8));
-    symmetric("K(4,5)", bipartite(4, 5));
-    symmetric("K7 less one cable", near_clique());
-    symmetric("Petersen graph", petersen());
+    for (const Symmetric &s : symmetrics) symmetric(s.name, s.drawing);
+    printf("\n| is_least of codes that are not least: devices, cables; kinds, cable kinds | any code | records that agree ");
+    printf("| the nearest of %d | records that agree |\n|---|---|---|---|---|\n", OTHERS);
+    for (const Shape &shape : SHAPES) row_of_others(shape);
+    for (const Symmetric &s : symmetrics) symmetric_others(s.name, s.drawing);
     printf("\n| book: a, b, limit | entries | milliseconds |\n|---|---|---|\n");
     book();
     printf("\n| check | microseconds |\n|---|---|\n");

@@ -1,7 +1,9 @@
 // Looks for drawings that take a call long: from random ones, step by step to whatever takes longer, for so many seconds.
-//   climb code|is_least|match SECONDS SEED
+//   climb code|is_least|not_least|match SECONDS SEED
+// is_least is given the least code of a drawing, not_least some other one where luck has it.
 // What it finds is a lower bound of the worst, no more. The clock is the processor time of this thread.
 #include "clock.hpp"
+#include "codes.hpp"
 #include "holvreiz.h"
 #include "surveys.hpp"
 #include <cstdio>
@@ -77,6 +79,18 @@ static void change(Random &random, Sketch &s) {
     }
 }
 
+static Bytes least_code(const Bytes &drawing) {
+    Bytes code(HOLVREIZ_CODE_BYTES);
+    code.resize(holvreiz_count(holvreiz_code(drawing.data(), drawing.size(), code.data(), code.size())));
+    return code;
+}
+
+// The same for the same drawing, so that one that takes long is found again.
+static Bytes some_code(const Bytes &drawing) {
+    Random random(1);
+    return bench::some_code(random, drawing);
+}
+
 struct Climber {
     std::string call;
 
@@ -84,10 +98,9 @@ struct Climber {
         Bytes a = first.bytes(), b = second.bytes(), out(HOLVREIZ_CODE_BYTES);
         if (call == "match")
             return bench::least([&] { holvreiz_match(a.data(), a.size(), b.data(), b.size(), out.data(), out.size()); });
-        uint64_t returned = holvreiz_code(a.data(), a.size(), out.data(), out.size());
-        Bytes code(out.begin(), out.begin() + holvreiz_count(returned));
-        if (call == "is_least") return bench::least([&] { holvreiz_is_least(code.data(), code.size()); });
-        return bench::least([&] { holvreiz_code(a.data(), a.size(), out.data(), out.size()); });
+        if (call == "code") return bench::least([&] { holvreiz_code(a.data(), a.size(), out.data(), out.size()); });
+        Bytes code = call == "is_least" ? least_code(a) : some_code(a);
+        return bench::least([&] { holvreiz_is_least(code.data(), code.size()); });
     }
 };
 
@@ -100,7 +113,7 @@ static void print(const char *name, const Sketch &s) {
 }
 
 int main(int words, char **word) {
-    if (words != 4) return fprintf(stderr, "climb code|is_least|match SECONDS SEED\n"), 2;
+    if (words != 4) return fprintf(stderr, "climb code|is_least|not_least|match SECONDS SEED\n"), 2;
     Climber climber{word[1]};
     double seconds = atof(word[2]), start = bench::seconds(), worst = 0;
     Random random(atoi(word[3]));

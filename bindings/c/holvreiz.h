@@ -85,6 +85,23 @@ static inline uint32_t holvreiz_drawing(uint64_t returned) {
     return (uint32_t)(returned >> 40);
 }
 
+/* The count of holvreiz_compare and holvreiz_is_least, taken apart: 256 * agreement + order or verdict. The agreement of two codes is the number of
+ * whole records before the first on which they part: the number of all records of equal codes, and of a code that begins a longer one that of its
+ * own. Lone devices agree in their one record or in none. */
+static inline uint32_t holvreiz_agreement(uint64_t returned) {
+    return holvreiz_count(returned) / 256;
+}
+
+/* Of holvreiz_compare: 0 equal, 1 before, 2 after. */
+static inline uint32_t holvreiz_order(uint64_t returned) {
+    return holvreiz_count(returned) % 256;
+}
+
+/* Of holvreiz_is_least: 1 yes, 0 no. */
+static inline uint32_t holvreiz_verdict(uint64_t returned) {
+    return holvreiz_count(returned) % 256;
+}
+
 /* Writes the least code of a drawing: 5 bytes for each cable, and 5 for a lone device. Two drawings get equal codes exactly when
  * some renumbering of devices makes one the other. Count: bytes written. */
 uint64_t holvreiz_code(const uint8_t *drawing, size_t drawing_length, uint8_t *output, size_t output_length);
@@ -93,10 +110,12 @@ uint64_t holvreiz_code(const uint8_t *drawing, size_t drawing_length, uint8_t *o
  * Needs 73 bytes of output. Count: bytes written. */
 uint64_t holvreiz_decode(const uint8_t *code, size_t code_length, uint8_t *output, size_t output_length);
 
-/* Whether a code is the least of the drawing that it describes. Count: 1 yes, 0 no. */
+/* Whether a code is the least of the drawing that it describes, and how far it agrees with the least: in all its records exactly if it is that.
+ * Count: 256 * agreement + (1 yes, 0 no). */
 uint64_t holvreiz_is_least(const uint8_t *code, size_t code_length);
 
-/* Where the first of two codes comes: lone devices before all others, by kind. Count: 0 equal, 1 before the second, 2 after it. */
+/* Where the first of two codes comes: lone devices before all others, by kind; and how far the two agree. Count: 256 * agreement + (0 equal, 1 before
+ * the second, 2 after it). */
 uint64_t holvreiz_compare(const uint8_t *first, size_t first_length, const uint8_t *second, size_t second_length);
 
 /* Writes the least map of a pattern into a drawing: for each device of the pattern, in order, the device that it is sent to.

@@ -61,15 +61,85 @@ static void codes(void) {
     EXPECT(is(holvreiz_decode(path_code, 10, output, DRAWING - 1), HOLVREIZ_OUTPUT_LENGTH, 0, 0) && all(output, LENT, MARK));
     EXPECT(is(holvreiz_decode(no_code, 10, output, LENT), HOLVREIZ_STEP, 0, 0) && all(output, LENT, MARK));
 
-    EXPECT(is(holvreiz_is_least(path_code, 10), HOLVREIZ_ANSWERED, 1, 0));
-    EXPECT(is(holvreiz_is_least(fork_code, 10), HOLVREIZ_ANSWERED, 0, 0));
+    EXPECT(is(holvreiz_is_least(path_code, 10), HOLVREIZ_ANSWERED, 256 * 2 + 1, 0));
+    EXPECT(is(holvreiz_is_least(fork_code, 10), HOLVREIZ_ANSWERED, 256 * 1 + 0, 0));
     EXPECT(is(holvreiz_is_least(path_code, 9), HOLVREIZ_CODE_LENGTH, 0, 0));
+    EXPECT(is(holvreiz_is_least(no_code, 10), HOLVREIZ_STEP, 0, 0));
 
-    EXPECT(is(holvreiz_compare(path_code, 10, path_code, 10), HOLVREIZ_ANSWERED, 0, 0));
-    EXPECT(is(holvreiz_compare(path_code, 10, fork_code, 10), HOLVREIZ_ANSWERED, 1, 0));
-    EXPECT(is(holvreiz_compare(path_code, 10, path_code, 5), HOLVREIZ_ANSWERED, 2, 0));
+    EXPECT(is(holvreiz_compare(path_code, 10, path_code, 10), HOLVREIZ_ANSWERED, 256 * 2 + 0, 0));
+    EXPECT(is(holvreiz_compare(path_code, 10, fork_code, 10), HOLVREIZ_ANSWERED, 256 * 1 + 1, 0));
+    EXPECT(is(holvreiz_compare(path_code, 10, path_code, 5), HOLVREIZ_ANSWERED, 256 * 1 + 2, 0));
     EXPECT(is(holvreiz_compare(no_code, 10, path_code, 9), HOLVREIZ_STEP, 0, 0));
+    EXPECT(is(holvreiz_compare(path_code, 10, no_code, 10), HOLVREIZ_STEP, 0, 0));
     EXPECT(is(holvreiz_compare(path_code, 10, path_code, 9), HOLVREIZ_CODE_LENGTH, 0, 0));
+}
+
+/* Whether two codes are in this order, seen from either, and agree in so many records; and each with itself in all its own. */
+static int before(const uint8_t *first, size_t first_length, const uint8_t *second, size_t second_length, uint32_t agreement) {
+    uint64_t along = holvreiz_compare(first, first_length, second, second_length);
+    uint64_t against = holvreiz_compare(second, second_length, first, first_length);
+    return is(along, HOLVREIZ_ANSWERED, 256 * agreement + 1, 0) && holvreiz_order(along) == 1 && holvreiz_agreement(along) == agreement
+        && is(against, HOLVREIZ_ANSWERED, 256 * agreement + 2, 0) && holvreiz_order(against) == 2 && holvreiz_agreement(against) == agreement
+        && is(holvreiz_compare(first, first_length, first, first_length), HOLVREIZ_ANSWERED, 256 * (uint32_t)(first_length / 5), 0)
+        && is(holvreiz_compare(second, second_length, second, second_length), HOLVREIZ_ANSWERED, 256 * (uint32_t)(second_length / 5), 0);
+}
+
+/* Whether the least test has this verdict and agreement. */
+static int tested(const uint8_t *code, size_t length, uint32_t verdict, uint32_t agreement) {
+    uint64_t returned = holvreiz_is_least(code, length);
+    return is(returned, HOLVREIZ_ANSWERED, 256 * agreement + verdict, 0) && holvreiz_verdict(returned) == verdict
+        && holvreiz_agreement(returned) == agreement;
+}
+
+/* A record of kind 1 and cable 5 throughout; gives the place behind it. */
+static uint8_t *put_plain(uint8_t *at, uint8_t i, uint8_t j) {
+    const uint8_t record[HOLVREIZ_RECORD_BYTES] = {i, j, 1, 5, 1};
+    memcpy(at, record, sizeof record);
+    return at + sizeof record;
+}
+
+/* Seven devices, each joined with each but for one pair, in the order of their numbers: twenty records. */
+static void fill_clique(uint8_t *at, uint8_t without_i, uint8_t without_j) {
+    for (uint8_t i = 1; i < 7; i++) {
+        at = put_plain(at, i - 1, i);
+        for (uint8_t j = 0; j + 1 < i; j++) {
+            if (i != without_i || j != without_j) {
+                at = put_plain(at, i, j);
+            }
+        }
+    }
+}
+
+/* Codes that part at the first record, at a later one, at the last of twenty, or that begin one another; codes that are not the least, with as many
+ * records of it as none, some and all but the last. */
+static void agreements(void) {
+    static const uint8_t triangle_code[15] = {0, 1, 1, 5, 1, 1, 2, 1, 5, 1, 2, 0, 1, 5, 1};
+    static const uint8_t other_kinds[5] = {0, 1, 1, 7, 2}, turned[5] = {0, 1, 2, 7, 1};
+    static const uint8_t tail_at_0[20] = {0, 1, 1, 5, 1, 1, 2, 1, 5, 1, 2, 0, 1, 5, 1, 0, 3, 1, 5, 1};
+    /* Of a triangle with two tails: of the codes from the same start the least parts after four records, the least of all after two. */
+    static const uint8_t from_a_tail[25] = {0, 1, 1, 5, 1, 1, 2, 1, 5, 1, 2, 3, 1, 5, 1, 3, 1, 1, 5, 1, 2, 4, 1, 5, 1};
+    uint8_t least[HOLVREIZ_CODE_BYTES], early[HOLVREIZ_CODE_BYTES], last[HOLVREIZ_CODE_BYTES];
+    fill_clique(least, 6, 4);
+    fill_clique(early, 3, 1);
+    fill_clique(last, 6, 3);
+
+    EXPECT(before(path_code, 10, fork_code, 10, 1));
+    EXPECT(before(path_code, 10, other_kinds, 5, 0));
+    EXPECT(before(path_code, 5, path_code, 10, 1));
+    EXPECT(before(path_code, 10, triangle_code, 15, 2));
+    EXPECT(before(triangle_code, 15, fork_code, 10, 1));
+    EXPECT(before(least, 100, last, 100, 19));
+    EXPECT(before(least, 95, least, 100, 19));
+    EXPECT(before(least, 100, early, 100, 5));
+
+    EXPECT(tested(other_kinds, 5, 1, 1));
+    EXPECT(tested(turned, 5, 0, 0));
+    EXPECT(tested(triangle_code, 15, 1, 3));
+    EXPECT(tested(tail_at_0, 20, 0, 3));
+    EXPECT(tested(from_a_tail, 25, 0, 2));
+    EXPECT(tested(least, 100, 1, 20));
+    EXPECT(tested(early, 100, 0, 5));
+    EXPECT(tested(last, 100, 0, 19));
 }
 
 static void maps(void) {
@@ -244,12 +314,11 @@ static void lone(void) {
     EXPECT(is(holvreiz_decode(code, 5, output, LENT), HOLVREIZ_ANSWERED, DRAWING, 0));
     EXPECT(memcmp(output, seven, DRAWING) == 0 && all(output + DRAWING, LENT - DRAWING, MARK));
 
-    EXPECT(is(holvreiz_is_least(code, 5), HOLVREIZ_ANSWERED, 1, 0));
+    EXPECT(tested(code, 5, 1, 1));
     EXPECT(is(holvreiz_is_least(unequal, 5), HOLVREIZ_KIND, 0, 0));
-    EXPECT(is(holvreiz_compare(code, 5, code, 5), HOLVREIZ_ANSWERED, 0, 0));
-    EXPECT(is(holvreiz_compare(code, 5, greater, 5), HOLVREIZ_ANSWERED, 1, 0));
-    EXPECT(is(holvreiz_compare(greater, 5, path_code, 10), HOLVREIZ_ANSWERED, 1, 0));
-    EXPECT(is(holvreiz_compare(path_code, 10, greater, 5), HOLVREIZ_ANSWERED, 2, 0));
+    EXPECT(is(holvreiz_compare(code, 5, code, 5), HOLVREIZ_ANSWERED, 256 * 1 + 0, 0));
+    EXPECT(before(code, 5, greater, 5, 0));
+    EXPECT(before(greater, 5, path_code, 10, 0));
     EXPECT(is(holvreiz_compare(code, 5, with_kind, 5), HOLVREIZ_STEP, 0, 0));
 
     lend();
@@ -298,6 +367,7 @@ static void books(void) {
 
 int main(void) {
     codes();
+    agreements();
     maps();
     catalogues();
     cranes();

@@ -225,19 +225,57 @@ pub fn decode(code: &[u8], output: &mut [u8]) -> Result<usize, Refusal> {
     answered(raw::decode(code, output))
 }
 
-/// Whether a code is the least of the drawing that it describes.
-pub fn is_least(code: &[u8]) -> Result<bool, Refusal> {
-    Ok(answered(raw::is_least(code))? == 1)
+/// Whether a code is the least, and how far it agrees with the least.
+#[derive(Clone, Copy, Debug, PartialEq, Eq, Hash)]
+pub struct Verdict {
+    /// Whether it is the least of the drawing that it describes.
+    pub least: bool,
+    /// The number of records up to which it agrees with the least code of that drawing: all its records exactly if it is the least.
+    pub agreement: usize,
+}
+
+/// Where the first of two codes comes, and how far they agree.
+#[derive(Clone, Copy, Debug, PartialEq, Eq, Hash)]
+pub struct Compared {
+    /// Less where the first comes before the second.
+    pub order: Ordering,
+    /// The number of whole records before the first on which they part: the number of all their records where they are equal, and where one begins
+    /// the other that of its own.
+    pub agreement: usize,
+}
+
+/// A count that has an agreement, taken apart: the agreement, and the order or the verdict.
+fn with_agreement(count: usize) -> (usize, usize) {
+    (count / 256, count % 256)
+}
+
+/// Whether a code is the least of the drawing that it describes, and in how many records it agrees with the least.
+///
+/// ```
+/// // a path of three devices told from its middle, which from an end is 0-1, 1-2: the first record is that of the least code
+/// let from_its_middle = [0, 1, 1, 5, 1, 0, 2, 1, 5, 1];
+/// let verdict = holvreiz::is_least(&from_its_middle)?;
+/// assert_eq!((verdict.least, verdict.agreement), (false, 1));
+/// # Ok::<(), holvreiz::Refusal>(())
+/// ```
+pub fn is_least(code: &[u8]) -> Result<Verdict, Refusal> {
+    let (agreement, verdict) = with_agreement(answered(raw::is_least(code))?);
+    Ok(Verdict {
+        least: verdict == 1,
+        agreement,
+    })
 }
 
 /// The order of two codes: at the first record that differs; a code that begins another comes before it. Lone devices come before
-/// all others, by kind.
-pub fn compare(first: &[u8], second: &[u8]) -> Result<Ordering, Refusal> {
-    Ok(match answered(raw::compare(first, second))? {
+/// all others, by kind. The agreement is the number of records before the one that differs.
+pub fn compare(first: &[u8], second: &[u8]) -> Result<Compared, Refusal> {
+    let (agreement, order) = with_agreement(answered(raw::compare(first, second))?);
+    let order = match order {
         0 => Ordering::Equal,
         1 => Ordering::Less,
         _ => Ordering::Greater,
-    })
+    };
+    Ok(Compared { order, agreement })
 }
 
 /// Writes the least map of a pattern into a drawing: for each device of the pattern the device that it is sent to.

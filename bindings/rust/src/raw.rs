@@ -87,12 +87,13 @@ pub fn decode(code: &[u8], output: &mut [u8]) -> u64 {
     unsafe { linked::holvreiz_decode(code.as_ptr(), code.len(), output.as_mut_ptr(), output.len()) }
 }
 
-/// Whether a code is the least of the drawing that it describes. Count: 1 yes, 0 no.
+/// Whether a code is the least of the drawing that it describes, and in how many records it agrees with the least. Count: 256 * agreement + (1 yes,
+/// 0 no).
 pub fn is_least(code: &[u8]) -> u64 {
     unsafe { linked::holvreiz_is_least(code.as_ptr(), code.len()) }
 }
 
-/// Where the first of two codes comes. Count: 0 equal, 1 before, 2 after.
+/// Where the first of two codes comes, and in how many records they agree. Count: 256 * agreement + (0 equal, 1 before, 2 after).
 pub fn compare(first: &[u8], second: &[u8]) -> u64 {
     unsafe { linked::holvreiz_compare(first.as_ptr(), first.len(), second.as_ptr(), second.len()) }
 }

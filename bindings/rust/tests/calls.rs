@@ -1,5 +1,5 @@
 //! Each call once with an answer and once with a refusal: that slices arrive and numbers are taken apart rightly.
-use holvreiz::Refusal;
+use holvreiz::{Compared, Refusal, Verdict};
 use std::cmp::Ordering;
 
 /// A drawing's record: the kinds of its devices, then its cables.
@@ -64,26 +64,96 @@ fn the_drawing_of_a_code() {
     );
 }
 
+fn verdict(least: bool, agreement: usize) -> Result<Verdict, Refusal> {
+    Ok(Verdict { least, agreement })
+}
+
 #[test]
 fn whether_a_code_is_the_least() {
-    assert_eq!(holvreiz::is_least(&plain_code(&[[0, 1], [1, 2]])), Ok(true));
-    assert_eq!(
-        holvreiz::is_least(&plain_code(&[[0, 1], [0, 2]])),
-        Ok(false)
-    );
+    for (pairs, least, agreement) in [
+        (&[[0, 1], [1, 2]][..], true, 2),
+        (&[[0, 1], [0, 2]], false, 1),
+        (&[[0, 1], [1, 2], [2, 0]], true, 3),
+        (&[[0, 1], [1, 2], [2, 0], [2, 3]], true, 4),
+        (&[[0, 1], [1, 2], [2, 0], [0, 3]], false, 3),
+        // of the codes from the same start the least parts after four records, the least of all after two
+        (&[[0, 1], [1, 2], [2, 3], [3, 1], [2, 4]], false, 2),
+    ] {
+        let tested = holvreiz::is_least(&plain_code(pairs));
+        assert_eq!(tested, verdict(least, agreement), "{pairs:?}");
+    }
+    assert_eq!(holvreiz::is_least(&[0, 1, 2, 7, 1]), verdict(false, 0));
     assert_eq!(
         holvreiz::is_least(&[0, 1, 1, 5, 1, 1, 2, 2, 5, 1]),
         Err(Refusal::Kind)
     );
 }
 
+fn compared(order: Ordering, agreement: usize) -> Result<Compared, Refusal> {
+    Ok(Compared { order, agreement })
+}
+
+/// Both ways round.
 #[test]
 fn the_order_of_two_codes() {
-    let (path, star) = (plain_code(&[[0, 1], [1, 2]]), plain_code(&[[0, 1], [0, 2]]));
-    assert_eq!(holvreiz::compare(&path, &path), Ok(Ordering::Equal));
-    assert_eq!(holvreiz::compare(&path, &star), Ok(Ordering::Less));
-    assert_eq!(holvreiz::compare(&star, &path), Ok(Ordering::Greater));
-    assert_eq!(holvreiz::compare(&star, &[]), Err(Refusal::CodeLength));
+    let [cable, path, fork, triangle] = [
+        &[[0, 1]][..],
+        &[[0, 1], [1, 2]],
+        &[[0, 1], [0, 2]],
+        &[[0, 1], [1, 2], [2, 0]],
+    ]
+    .map(plain_code);
+    let other = vec![0, 1, 1, 7, 2];
+    for (first, second, agreement) in [
+        (&path, &fork, 1),
+        (&cable, &path, 1),
+        (&path, &triangle, 2),
+        (&triangle, &fork, 1),
+        (&path, &other, 0),
+    ] {
+        let before = holvreiz::compare(first, second);
+        assert_eq!(before, compared(Ordering::Less, agreement));
+        let after = holvreiz::compare(second, first);
+        assert_eq!(after, compared(Ordering::Greater, agreement));
+    }
+    for code in [&cable, &path, &fork, &triangle, &other] {
+        let equal = holvreiz::compare(code, code);
+        assert_eq!(equal, compared(Ordering::Equal, code.len() / 5));
+    }
+    assert_eq!(holvreiz::compare(&fork, &[]), Err(Refusal::CodeLength));
+}
+
+/// Twenty records: seven devices, each joined with each but for one pair.
+#[test]
+fn agreements_of_the_longest_codes() {
+    let without = |missing: [u8; 2]| {
+        let of_device = |i: u8| {
+            [[i - 1, i]]
+                .into_iter()
+                .chain((0..i - 1).map(move |j| [i, j]))
+        };
+        let pairs = (1..7).flat_map(of_device).filter(|pair| *pair != missing);
+        plain_code(&pairs.collect::<Vec<_>>())
+    };
+    let least = without([6, 4]);
+    assert_eq!(least.len(), holvreiz::CODE_BYTES);
+    assert_eq!(holvreiz::is_least(&least), verdict(true, 20));
+    assert_eq!(
+        holvreiz::compare(&least, &least),
+        compared(Ordering::Equal, 20)
+    );
+    assert_eq!(
+        holvreiz::compare(&least[..95], &least),
+        compared(Ordering::Less, 19)
+    );
+    for (missing, agreement) in [([2, 0], 2), ([4, 2], 9), ([6, 3], 19)] {
+        let other = without(missing);
+        assert_eq!(holvreiz::is_least(&other), verdict(false, agreement));
+        assert_eq!(
+            holvreiz::compare(&other, &least),
+            compared(Ordering::Greater, agreement)
+        );
+    }
 }
 
 #[test]
@@ -325,11 +395,18 @@ fn lone_devices() {
         holvreiz::decode(&[0, 0, 7, 0, 8], &mut decoded),
         Err(Refusal::Kind)
     );
-    assert_eq!(holvreiz::is_least(&code), Ok(true));
-    assert_eq!(holvreiz::compare(&code, &greater), Ok(Ordering::Less));
+    assert_eq!(holvreiz::is_least(&code), verdict(true, 1));
+    assert_eq!(
+        holvreiz::compare(&code, &code),
+        compared(Ordering::Equal, 1)
+    );
+    assert_eq!(
+        holvreiz::compare(&code, &greater),
+        compared(Ordering::Less, 0)
+    );
     assert_eq!(
         holvreiz::compare(&plain_code(&[[0, 1]]), &greater),
-        Ok(Ordering::Greater)
+        compared(Ordering::Greater, 0)
     );
 
     let mut map = [9; 2];

@@ -1,4 +1,5 @@
 // Each kind of answer as one number: those of codes, of matching, of lists.
+use crate::number::agreed;
 use crate::number::counted;
 use crate::number::refused;
 use code_checks::answer::Compared;
@@ -9,10 +10,10 @@ use matching::answer::Sameness;
 use records::catalogued::Catalogued;
 use records::list_checked::ListChecked;
 ghost use mathlib.Core.Path.{_≡_};
-ghost use Prim.Native.Nat.{_<_};
+ghost use Prim.Native.Nat.{_≤_, _<_};
 ghost use Rattle.records.specs.Catalogued.{catalogued-refusal, catalogued-count};
 ghost use Rattle.records.specs.ListsChecked.{list-refusal, list-value};
-ghost use Rattle.code_checks.specs.Answers.{written-numbers, verdict-numbers, compared-numbers};
+ghost use Rattle.code_checks.specs.Answers.{written-numbers, verdict-agreement, verdict-numbers, compared-agreement, compared-numbers};
 ghost use Rattle.matching.specs.MatchAnswers.{match-refusal, match-count, same-refusal, same-value};
 ghost use Rattle.answer_numbers.specs.Packed.{packed, packed-numbers};
 
@@ -26,22 +27,24 @@ pub fn written_number(answer: Written) -> u64
 }
 
 pub fn verdict_number(answer: Verdict) -> u64
+    requires { ⌜ verdict-agreement answer ≤ 20 ⌝ }
     ensures { λ r. ⌜ r ≡ packed-numbers (verdict-numbers answer) ⌝ }
 {
     match answer {
-        Verdict::No => counted(0),
-        Verdict::Yes => counted(1),
+        Verdict::No(agreement) => agreed(agreement, 0),
+        Verdict::Yes(agreement) => agreed(agreement, 1),
         Verdict::Refused(reason) => refused(reason, 0),
     }
 }
 
 pub fn compared_number(answer: Compared) -> u64
+    requires { ⌜ compared-agreement answer ≤ 20 ⌝ }
     ensures { λ r. ⌜ r ≡ packed-numbers (compared-numbers answer) ⌝ }
 {
     match answer {
-        Compared::Equal => counted(0),
-        Compared::Before => counted(1),
-        Compared::After => counted(2),
+        Compared::Equal(agreement) => agreed(agreement, 0),
+        Compared::Before(agreement) => agreed(agreement, 1),
+        Compared::After(agreement) => agreed(agreement, 2),
         Compared::Refused(reason) => refused(reason, 0),
     }
 }

@@ -1,8 +1,8 @@
 -- What an answer says in the paper's numbers, and what a call that writes bytes answers and leaves. Assumes nothing:
 -- these are definitions.
 use mathlib.Core.Path.{_≡_}
-use mathlib.Core.List.{List, _++_}
-use Prim.Native.Nat.{ℕ}
+use mathlib.Core.List.{List}
+use Prim.Native.Nat.{ℕ, _+_, _*_}
 use lib.ListN.{length}
 use Rattle.records.specs.declared.refusal.Checked.{Checked}
 use Rattle.records.specs.declared.refusal.Checked.the-variants as checked
@@ -28,17 +28,30 @@ abbrev pub written-numbers : Written → Numbers
 written-numbers (written.Bytes n) = numbers 0 n
 written-numbers (written.Refused r) = numbers (number-of r) 0
 
--- 0 equal, 1 the first before, 2 after
+-- how far two codes agree, 0 where it refuses
+abbrev pub compared-agreement : Compared → ℕ
+compared-agreement (compared.Equal k) = k
+compared-agreement (compared.Before k) = k
+compared-agreement (compared.After k) = k
+compared-agreement (compared.Refused r) = 0
+
+-- 0 equal, 1 the first before, 2 after, and 256 times their agreement
 abbrev pub compared-numbers : Compared → Numbers
-compared-numbers compared.Equal = numbers 0 0
-compared-numbers compared.Before = numbers 0 1
-compared-numbers compared.After = numbers 0 2
+compared-numbers (compared.Equal k) = numbers 0 (256 * k)
+compared-numbers (compared.Before k) = numbers 0 (256 * k + 1)
+compared-numbers (compared.After k) = numbers 0 (256 * k + 2)
 compared-numbers (compared.Refused r) = numbers (number-of r) 0
 
--- 1 yes, 0 no
+-- how far a code agrees with the least one, 0 where it refuses
+abbrev pub verdict-agreement : Verdict → ℕ
+verdict-agreement (verdict.No k) = k
+verdict-agreement (verdict.Yes k) = k
+verdict-agreement (verdict.Refused r) = 0
+
+-- 1 yes, 0 no, and 256 times that agreement
 abbrev pub verdict-numbers : Verdict → Numbers
-verdict-numbers verdict.No = numbers 0 0
-verdict-numbers verdict.Yes = numbers 0 1
+verdict-numbers (verdict.No k) = numbers 0 (256 * k)
+verdict-numbers (verdict.Yes k) = numbers 0 (256 * k + 1)
 verdict-numbers (verdict.Refused r) = numbers (number-of r) 0
 
 -- what is answered, and what the lent bytes are then: a refusal writes nothing

@@ -2,14 +2,16 @@
 use mathlib.Core.Path.{_≡_, refl, sym, ap, _∙_}
 use mathlib.Core.Bool.{Bool, true, false, _&&_, not, cond}
 use mathlib.Core.List.{List, [], _∷_}
-use Prim.Native.Nat.{ℕ, _/_}
+use Prim.Native.Nat.{ℕ, _/_, _≤_}
 use native.Mathlib.Omega.{arith}
-use lib.Dec.{eqb}
+use lib.Dec.{leb, eqb}
 use lib.ListN.{length}
-use borrow.Author.Tests.{eq-eqb, ne-eqb}
+use borrow.Author.Tests.{leb-true, eq-eqb, ne-eqb}
+use Rattle.laws.specs.Tests.{and-split}
 use Rattle.laws.specs.Rows.{rows, row, row-zero}
 use Rattle.codes.specs.Code.{Rec, rec-in, recs-in, code-records, code-refusal}
-use Rattle.codes.specs.SectionCode.{lone-row, lone-refusal, lone-bytes, section-code-refusal}
+use Rattle.codes.specs.SectionCode.{lone-row, lone-refusal, lone-bytes, records-refusal, records-good, section-code-refusal}
+use Rattle.codes.specs.SectionBytes.{accepted-section-code}
 use Rattle.records.specs.declared.refusal.Checked.the-variants.{Accepted}
 use Rattle.records.specs.Refusals.{checked-number}
 use Rattle.readings.specs.Readings.{code-checked}
@@ -40,6 +42,15 @@ module _ (bs : List ℕ) where
 
   pub section-accepted-checked : section-code-refusal bs ≡ 0 → section-code-checked bs ≡ Accepted
   section-accepted-checked fine = no-number (section-code-checked bs) (section-checked-number ∙ fine)
+
+  -- and has at most 20 records
+  pub section-checked-few : section-code-checked bs ≡ Accepted → length (code-records bs) ≤ 20
+  unfolding records-good
+  section-checked-few e =
+      let n = length (code-records bs) in
+      let good = accepted-section-code bs (section-checked-accepted e) .good in
+      let size = and-split (leb 1 n && leb n 20) (eqb (records-refusal (code-records bs)) 0) good .0 in
+      leb-true n 20 (and-split (leb 1 n) (leb n 20) size .1)
 
   -- ONE RECORD of five bytes
   pub one-record : length bs ≡ 5 → code-records bs ≡ rec-in (row 5 0 bs) ∷ []

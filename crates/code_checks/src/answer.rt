@@ -7,17 +7,17 @@ pub enum Written {
     Refused(Refusal),
 }
 
-// Comparing two codes: where the first one comes.
+// Comparing two codes: where the first one comes, with their agreement, the number of whole records before the first on which they part.
 pub enum Compared {
-    Before,
-    Equal,
-    After,
+    Before(usize),
+    Equal(usize),
+    After(usize),
     Refused(Refusal),
 }
 
-// A question with yes or no for an answer.
+// Whether a code is the least of what it describes, with its agreement with the least one.
 pub enum Verdict {
-    Yes,
-    No,
+    Yes(usize),
+    No(usize),
     Refused(Refusal),
 }

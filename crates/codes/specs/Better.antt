@@ -30,6 +30,13 @@ module _ (labels : Rec → Rec → Bool) (d : Drawing) where
   Better γ [] f = ⊥
   Better γ (e ∷ ss) f = Sees-before (read-rows fresh γ) f e ⊎ ((h : Local d (read-rows fresh γ) f e) × Better (snoc γ e) ss (next h))
 
+  -- what is seen before a record is seen whatever comes behind that record
+  pub better-more : (γ ss ms : List Rec) (f : List ℕ) → Better γ ss f → Better γ (ss ++ ms) f
+  unfolding Better
+  better-more γ [] ms f b = absurd b
+  better-more γ (e ∷ ss) ms f (inl s) = inl s
+  better-more γ (e ∷ ss) ms f (inr (h, b)) = inr (h, better-more (snoc γ e) ss ms (next h) b)
+
   module _ (ten : devices d ≤ 10) (ends : Ends-in-range d) where
     -- where something better is seen, the code is not greedy
     pub better-not-greedy : (γ ss : List Rec) (f : List ℕ) → Node d γ f → Better γ ss f → Greedy labels d γ ss → ⊥

@@ -10,12 +10,13 @@ use lib.ListN.{length, getD, take, drop, length-map}
 use lib.Seq.{take-all}
 use borrow.Author.Tests.{eqb-true, eqb-false, ltb-false, not-false, le-leb, eq-eqb}
 use Rattle.laws.specs.Tests.{or-none, and-both}
-use Rattle.laws.specs.Lists.{concat}
+use Rattle.laws.specs.Lists.{concat, map-take}
 use Rattle.laws.specs.Rows.{
   rows,
   Sized,
   rows-length,
   rows-sized,
+  rows-take,
   rows-concat,
   concat-rows,
   concat-length,
@@ -69,6 +70,11 @@ rec-bytes-injective rs ss e =
 pub recs-in-length : (n : ℕ) (bs : List ℕ) → length (recs-in n bs) ≡ n
 unfolding recs-in
 recs-in-length n bs = length-map (rows 5 n bs) rec-in ∙ rows-length 5 n bs
+
+-- the first k of the records of an array are its first k records
+pub recs-take : (k n : ℕ) (bs : List ℕ) → k ≤ n → take k (recs-in n bs) ≡ recs-in k bs
+unfolding recs-in
+recs-take k n bs h = map-take rec-in k (rows 5 n bs) ∙ ap (map rec-in) (rows-take 5 k n bs h)
 
 -- READING, THEN WRITING
 in-five : (bs : List ℕ) → length bs ≡ 5 → five (rec-in bs) ≡ bs

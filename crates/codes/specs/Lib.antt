@@ -1,6 +1,7 @@
 -- Definitions.
 pub mod Code
 pub mod SectionCode
+pub mod Agreement
 pub mod RecordPut
 pub mod BranchState
 pub mod Twins
@@ -19,6 +20,8 @@ pub mod FullCode
 pub mod LeastCode
 pub mod Decoded
 pub mod CodeBytes
+pub mod AgreementLaws
+pub mod LeastAgreement
 pub mod CodeFronts
 pub mod AppendedRecordLaws
 pub mod CodesTell

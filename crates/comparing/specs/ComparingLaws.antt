@@ -1,9 +1,10 @@
--- The order of two codes, record by record, and the answer in the paper's numbers. Rests on the order of codes. Assumes
--- nothing.
-use mathlib.Core.Path.{_≡_, refl, ap, ap₂, _∙_}
+-- The order and the agreement of two codes, record by record, and the answer in the paper's numbers. Rests on the order of codes and on
+-- AgreementLaws. Assumes nothing.
+use mathlib.Core.Path.{_≡_, refl, sym, ap, ap₂, _∙_}
 use mathlib.Core.Bool.{Bool, true, false, cond}
 use mathlib.Core.List.{List, [], _∷_, map}
-use Prim.Native.Nat.{ℕ, _+_, _/_, _≤_, _<_}
+use Prim.Native.Nat.{ℕ, suc, _+_, _*_, _/_, _≤_, _<_}
+use native.Mathlib.Nat.{add-zero, zero-add}
 use native.Mathlib.Omega.{arith}
 use lib.Dec.{eqb}
 use lib.ListN.{length}
@@ -11,7 +12,9 @@ use borrow.Author.Tests.{ne-eqb}
 use Rattle.laws.specs.Tests.{Three, less, same, more, true-and-false}
 use Rattle.codes.specs.Code.{Rec, kinds-before, rec-in, recs-in, before-by, before}
 use Rattle.codes.specs.SectionCode.{section-code-refusal}
-use Rattle.codes.specs.CodeOrder.{kinds-order, before-strict, difference-decides, later-not-before, same-first}
+use Rattle.codes.specs.CodeOrder.{rec-same-test, kinds-order, before-strict, difference-decides, later-not-before, same-first}
+use Rattle.codes.specs.Agreement.{agreement}
+use Rattle.codes.specs.AgreementLaws.{agreement-symmetric, agreement-first, agreement-next, agreement-apart, agreement-ended}
 use Rattle.records.specs.declared.refusal.Refusal.{Refusal}
 use Rattle.records.specs.declared.refusal.Checked.{Checked}
 use Rattle.records.specs.declared.refusal.Checked.the-variants.{Accepted, Refused}
@@ -22,24 +25,28 @@ use Rattle.code_records.specs.declared.«record».Order.{Order}
 use Rattle.code_records.specs.declared.«record».Order.the-variants.{Before, Equal, After}
 use Rattle.code_checks.specs.declared.answer.Compared.{Compared}
 use Rattle.code_checks.specs.declared.answer.Compared.the-variants as compared
-use Rattle.code_checks.specs.Answers.{numbers, compared-numbers}
+use Rattle.code_checks.specs.Answers.{numbers, compared-agreement, compared-numbers}
 use Rattle.records.specs.Refusals.{or-else}
 use Rattle.code_checks.specs.AnswerLaws.{or-else-number}
 use Rattle.code_checks.specs.SectionChecks.{section-code-checked}
 use Rattle.codes.specs.Code.{code-records}
 use Rattle.code_records.specs.Records.{order-of}
 use Rattle.code_records.specs.RecordLaws.{order-before, order-equal, order-after}
-use Rattle.comparing.specs.Comparing.{codes-order, compared-count, order-answer, compare-answer, Compare-says}
+use Rattle.comparing.specs.Comparing.{codes-order, compared-count, order-answer, codes-answer, compare-answer, Compare-says}
 use Rattle.code_checks.specs.CheckLaws.{checked-record}
-use Rattle.code_checks.specs.SectionCheckLaws.{section-checked-number}
+use Rattle.code_checks.specs.SectionCheckLaws.{section-checked-number, section-checked-few}
 
 -- ONE RECORD of each
+order-itself : (r s : Rec) → r ≡ s → order-of r s ≡ Equal
+unfolding order-of
+order-itself r s e = rw (e, rec-same-test .at s)
+
 module _ (r s : Rec) (rs ss : List Rec) where
-  pub codes-same : order-of r s ≡ Equal → codes-order (r ∷ rs) (s ∷ ss) ≡ codes-order rs ss
+  codes-same : order-of r s ≡ Equal → codes-order (r ∷ rs) (s ∷ ss) ≡ codes-order rs ss
   unfolding codes-order
   codes-same e = rw (← order-equal r s e, same-first kinds-before r rs ss, same-first kinds-before r ss rs)
 
-  pub codes-differ : (order-of r s ≡ Equal → ⊥) → order-of r s ≡ codes-order (r ∷ rs) (s ∷ ss)
+  codes-differ : (order-of r s ≡ Equal → ⊥) → order-of r s ≡ codes-order (r ∷ rs) (s ∷ ss)
   codes-differ n = go (order-of r s) refl n
     where
       go : (o : Order) → order-of r s ≡ o → (o ≡ Equal → ⊥) → o ≡ codes-order (r ∷ rs) (s ∷ ss)
@@ -50,18 +57,27 @@ module _ (r s : Rec) (rs ss : List Rec) where
           unfold codes-order in
           rw (later-not-before kinds-before kinds-order s r ss rs l, difference-decides kinds-before kinds-order [] s r ss rs l)
 
+  agreement-same : order-of r s ≡ Equal → agreement (r ∷ rs) (s ∷ ss) ≡ suc (agreement rs ss)
+  agreement-same e = rw (← order-equal r s e) (agreement-next rs ss r)
+
+  agreement-differ : (order-of r s ≡ Equal → ⊥) → agreement (r ∷ rs) (s ∷ ss) ≡ 0
+  agreement-differ n = agreement-apart rs ss r s (λ e. n (order-itself r s e))
+
 -- A CODE THAT BEGINS ANOTHER comes before it
-pub codes-longer : (r : Rec) (rs : List Rec) → After ≡ codes-order (r ∷ rs) []
+codes-longer : (r : Rec) (rs : List Rec) → After ≡ codes-order (r ∷ rs) []
 unfolding codes-order before-by
 codes-longer r rs = refl
 
-pub codes-shorter : (s : Rec) (ss : List Rec) → Before ≡ codes-order [] (s ∷ ss)
+codes-shorter : (s : Rec) (ss : List Rec) → Before ≡ codes-order [] (s ∷ ss)
 unfolding codes-order before-by
 codes-shorter s ss = refl
 
-pub codes-equal : Equal ≡ codes-order [] []
+codes-equal : Equal ≡ codes-order [] []
 unfolding codes-order before-by
 codes-equal = refl
+
+agreement-begun : (ss : List Rec) → agreement [] ss ≡ 0
+agreement-begun ss = agreement-symmetric [] ss ∙ agreement-ended ss
 
 -- RECORD BY RECORD: those left from k on
 unfoldable pub recs-left : List ℕ → (k : ℕ) → List Rec
@@ -80,34 +96,60 @@ module _ (bs : List ℕ) where
   unfolding recs-left
   recs-end k h = ap (map rec-in) (left-end 5 (length bs / 5) bs k h)
 
+-- of both codes
 module _ (xs ys : List ℕ) where
-  abbrev pub order-from : ℕ → Order
+  abbrev order-from : ℕ → Order
   order-from k = codes-order (recs-left xs k) (recs-left ys k)
 
-  pub order-start : codes-order (code-records xs) (code-records ys) ≡ order-from 0
-  order-start = ap₂ codes-order (recs-start xs) (recs-start ys)
+  abbrev agreement-from : ℕ → ℕ
+  agreement-from k = agreement (recs-left xs k) (recs-left ys k)
+
+  -- THE ANSWER from them, where k records before them are equal
+  abbrev pub compared-from : ℕ → Compared
+  compared-from k = order-answer (order-from k) (k + agreement-from k)
+
+  pub compared-start : codes-answer (code-records xs) (code-records ys) ≡ compared-from 0
+  compared-start =
+      ap₂ order-answer (ap₂ codes-order (recs-start xs) (recs-start ys))
+      (ap₂ agreement (recs-start xs) (recs-start ys) ∙ sym (zero-add (agreement-from 0)))
 
   module _ (k : ℕ) where
-    pub order-longer : k < length xs / 5 → length ys / 5 ≤ k → After ≡ order-from k
-    order-longer h g = rw (recs-next xs k h, recs-end ys k g) (codes-longer (checked-record xs k) (recs-left xs (k + 1)))
+    -- where the codes part at k, they agree in k records
+    parted-at : (o : Order) → o ≡ order-from k → agreement-from k ≡ 0 → order-answer o k ≡ compared-from k
+    parted-at o e none = let n : k ≡ k + agreement-from k = omega (arith, none) in ap₂ order-answer e n
 
-    pub order-shorter : length xs / 5 ≤ k → k < length ys / 5 → Before ≡ order-from k
-    order-shorter h g = rw (recs-end xs k h, recs-next ys k g) (codes-shorter (checked-record ys k) (recs-left ys (k + 1)))
+    pub compared-longer : k < length xs / 5 → length ys / 5 ≤ k → order-answer After k ≡ compared-from k
+    compared-longer h g =
+        parted-at After (rw (recs-next xs k h, recs-end ys k g) (codes-longer (checked-record xs k) (recs-left xs (k + 1))))
+        (rw (recs-end ys k g) (agreement-ended (recs-left xs k)))
 
-    pub order-ended : length xs / 5 ≤ k → length ys / 5 ≤ k → Equal ≡ order-from k
-    order-ended h g = rw (recs-end xs k h, recs-end ys k g) codes-equal
+    pub compared-shorter : length xs / 5 ≤ k → k < length ys / 5 → order-answer Before k ≡ compared-from k
+    compared-shorter h g =
+        parted-at Before (rw (recs-end xs k h, recs-next ys k g) (codes-shorter (checked-record ys k) (recs-left ys (k + 1))))
+        (rw (recs-end xs k h) (agreement-begun (recs-left ys k)))
+
+    pub compared-ended : length xs / 5 ≤ k → length ys / 5 ≤ k → order-answer Equal k ≡ compared-from k
+    compared-ended h g =
+        parted-at Equal (rw (recs-end xs k h, recs-end ys k g) codes-equal) (rw (recs-end ys k g) (agreement-ended (recs-left xs k)))
 
     module _ (h : k < length xs / 5) (g : k < length ys / 5) where
-      pub order-same : order-of (checked-record xs k) (checked-record ys k) ≡ Equal → order-from k ≡ order-from (k + 1)
-      order-same e =
-          rw (recs-next xs k h, recs-next ys k g)
-          (codes-same (checked-record xs k) (checked-record ys k) (recs-left xs (k + 1)) (recs-left ys (k + 1)) e)
+      abbrev r : Rec
+      r = checked-record xs k
 
-      pub order-differs : (order-of (checked-record xs k) (checked-record ys k) ≡ Equal → ⊥) → order-of (checked-record xs k)
-          (checked-record ys k) ≡ order-from k
-      order-differs d =
+      abbrev s : Rec
+      s = checked-record ys k
+
+      pub compared-same : order-of r s ≡ Equal → compared-from k ≡ compared-from (k + 1)
+      compared-same e =
           rw (recs-next xs k h, recs-next ys k g)
-          (codes-differ (checked-record xs k) (checked-record ys k) (recs-left xs (k + 1)) (recs-left ys (k + 1)) d)
+          (ap₂ order-answer (codes-same r s (recs-left xs (k + 1)) (recs-left ys (k + 1)) e)
+          (omega (arith, agreement-same r s (recs-left xs (k + 1)) (recs-left ys (k + 1)) e)))
+
+      pub compared-differs : (order-of r s ≡ Equal → ⊥) → order-answer (order-of r s) k ≡ compared-from k
+      compared-differs d =
+          parted-at (order-of r s)
+          (rw (recs-next xs k h, recs-next ys k g) (codes-differ r s (recs-left xs (k + 1)) (recs-left ys (k + 1)) d))
+          (rw (recs-next xs k h, recs-next ys k g) (agreement-differ r s (recs-left xs (k + 1)) (recs-left ys (k + 1)) d))
 
 -- WHAT THE ORDER TELLS: equal codes, if neither comes before the other
 pub codes-order-equal : (rs ss : List Rec) → codes-order rs ss ≡ Equal → rs ≡ ss
@@ -135,25 +177,50 @@ module _ (xs ys : List ℕ) where
     unfolding Compare-says
     compare-second r e = rw (first, e)
 
-    pub compare-order :
-        (o : Order) → section-code-checked ys ≡ Accepted → codes-order (code-records xs) (code-records ys) ≡ o
-        → Compare-says xs ys (order-answer o)
+    pub compare-accepted :
+        (r : Compared) → section-code-checked ys ≡ Accepted → r ≡ codes-answer (code-records xs) (code-records ys) → Compare-says xs ys r
     unfolding Compare-says
-    compare-order o second e = rw (first, second, e)
+    compare-accepted r second e = rw (first, second) e
 
--- IN THE PAPER'S NUMBERS: the first refusal that applies, and the count of the order
-order-numbers : (rs ss : List Rec) → compared-numbers (order-answer (codes-order rs ss)) ≡ numbers 0 (compared-count rs ss)
-unfolding codes-order compared-count
-order-numbers rs ss = go (before rs ss) (before ss rs)
+-- THEIR AGREEMENT is at most 20: no accepted code has more records
+pub order-agreement : (o : Order) (k : ℕ) → compared-agreement (order-answer o k) ≡ k
+order-agreement Before k = refl
+order-agreement Equal k = refl
+order-agreement After k = refl
+
+pub compare-agreement-most : (xs ys : List ℕ) (r : Compared) → Compare-says xs ys r → compared-agreement r ≤ 20
+unfolding Compare-says
+compare-agreement-most xs ys r e = rw e (go (section-code-checked xs) (section-code-checked ys) refl)
   where
-    go : (p q : Bool) → compared-numbers (order-answer (cond p Before (cond q After Equal))) ≡ numbers 0 (cond p 1 (cond q 2 0))
-    go true q = refl
-    go false true = refl
-    go false false = refl
+    rs : List Rec
+    rs = code-records xs
+
+    ss : List Rec
+    ss = code-records ys
+
+    go :
+        (a b : Checked) → section-code-checked xs ≡ a
+        → compared-agreement (compare-answer (or-else a b) (codes-order rs ss) (agreement rs ss)) ≤ 20
+    go Accepted Accepted e =
+        omega (arith, order-agreement (codes-order rs ss) (agreement rs ss), agreement-first rs ss, section-checked-few xs e)
+    go Accepted (Refused x) e = omega arith
+    go (Refused x) b e = omega arith
+
+-- IN THE PAPER'S NUMBERS: the first refusal that applies, and the count of the order and the agreement
+order-numbers : (rs ss : List Rec) → compared-numbers (codes-answer rs ss) ≡ numbers 0 (compared-count rs ss)
+unfolding codes-order compared-count
+order-numbers rs ss = go (before rs ss) (before ss rs) (agreement rs ss)
+  where
+    go :
+        (p q : Bool) (k : ℕ)
+        → compared-numbers (order-answer (cond p Before (cond q After Equal)) k) ≡ numbers 0 (256 * k + cond p 1 (cond q 2 0))
+    go true q k = refl
+    go false true k = refl
+    go false false k = ap (numbers 0) (sym (add-zero (256 * k)))
 
 answer-numbers :
     (c : Checked) (rs ss : List Rec)
-    → compared-numbers (compare-answer c (codes-order rs ss))
+    → compared-numbers (compare-answer c (codes-order rs ss) (agreement rs ss))
     ≡ numbers (checked-number c) (cond (eqb (checked-number c) 0) (compared-count rs ss) 0)
 answer-numbers Accepted rs ss = order-numbers rs ss
 answer-numbers (Refused r) rs ss =

@@ -1,8 +1,8 @@
 -- What the calls say of each other: two drawings get equal bytes exactly when they are the same, coding what a code
--- decodes to gives it back exactly when it is least, and the least test answers yes exactly then. Rests on what each
--- call says and on codes. Assumes nothing.
+-- decodes to gives it back exactly when it is least, and the least test answers yes exactly then and tells how far the two codes agree. Rests on
+-- what each call says and on codes. Assumes nothing.
 use mathlib.Core.Path.{_≡_, refl, sym, ap, subst, _∙_}
-use mathlib.Core.Bool.{true, cond}
+use mathlib.Core.Bool.{Bool, true, false, cond}
 use mathlib.Core.List.{List}
 use mathlib.Core.Logic.{_⊎_, inl, inr}
 use Prim.Native.Nat.{ℕ, _*_, _/_, _≤_}
@@ -18,12 +18,19 @@ use Rattle.graphs.specs.Graph.{Section}
 use Rattle.graphs.specs.DrawingBytes.{drawing-in-bytes, drawing-bytes-accepted}
 use Rattle.graphs.specs.Patterns.{accepted-section}
 use Rattle.codes.specs.Code.{Rec, code-records, rec-bytes, kinds-before}
+use Rattle.codes.specs.Agreement.{agreement}
 use Rattle.codes.specs.CodeOrder.{kinds-order}
 use Rattle.codes.specs.CodeBytes.{rec-bytes-injective, recs-in-length}
 use Rattle.codes.specs.Decoded.{rows-bytes}
 use Rattle.codes.specs.SectionCode.{section-code-refusal, section-records, section-of, Least-section}
 use Rattle.codes.specs.SectionCodes.{row-section, row-coded, section-bytes-tell, least-section-unique}
-use Rattle.codes.specs.SectionBytes.{Accepted-section-code, accepted-section-code, section-code-length}
+use Rattle.codes.specs.SectionBytes.{
+  Accepted-section-code,
+  accepted-section-code,
+  read-again,
+  records-accepted,
+  section-code-length,
+}
 use Rattle.records.specs.declared.refusal.Checked.{Checked}
 use Rattle.records.specs.declared.refusal.Checked.the-variants.{Accepted, Refused}
 use Rattle.records.specs.Refusals.{checked-number}
@@ -33,13 +40,14 @@ use Rattle.code_checks.specs.declared.answer.Written.the-variants as written
 use Rattle.code_checks.specs.declared.answer.Verdict.{Verdict}
 use Rattle.code_checks.specs.declared.answer.Verdict.the-variants as verdict
 use Rattle.laws.specs.Lent.{in-front}
-use Rattle.code_checks.specs.Answers.{put-answer, put-bytes, verdict-numbers}
+use Rattle.code_checks.specs.Answers.{put-answer, put-bytes, verdict-agreement, verdict-numbers}
 use Rattle.code_checks.specs.SectionChecks.{section-code-checked}
 use Rattle.code_checks.specs.SectionCheckLaws.{section-checked-number, section-accepted-checked}
 use Rattle.coding.specs.CodeDrawing.{coding-refusal, Code-as, Code-says, Least-written}
 use Rattle.decoding.specs.Decoding.{decode-checked, Decode-says}
-use Rattle.coding.specs.LeastSays.{Least-answer, Least-says}
-use Rattle.demands.specs.Terms.{written-bytes}
+use Rattle.coding.specs.LeastSays.{Least-told, Least-answer, Least-says}
+use Rattle.coding.specs.LeastSaysLaws.{told-agreement, told-least}
+use Rattle.demands.specs.Terms.{written-bytes, least-digit}
 
 pub bytes-in-front : (bs o z : List ℕ) (r : Written) → r ≡ written.Bytes (length bs) → z ≡ in-front bs o → written-bytes r z ≡ bs
 bytes-in-front bs o z r e f = rw (e, f) (take-at bs (drop (length bs) o) (length bs) refl)
@@ -87,8 +95,13 @@ least-refusal bs v h = go (section-code-checked bs) h ∙ section-checked-number
   where
     go : (c : Checked) → Least-answer c (code-records bs) v → verdict-numbers v .refusal ≡ checked-number c
     go (Refused x) e = ap (λ (w : Verdict). verdict-numbers w .refusal) e
-    go Accepted (inl y) = ap (λ (w : Verdict). verdict-numbers w .refusal) (y .0)
-    go Accepted (inr n) = ap (λ (w : Verdict). verdict-numbers w .refusal) (n .0)
+    go Accepted t =
+        ap (λ (w : Verdict). verdict-numbers w .refusal) (t .answer)
+        ∙ answered (agreement (code-records bs) (t .code)) (eqb (agreement (code-records bs) (t .code)) (length (code-records bs)))
+      where
+        answered : (k : ℕ) (b : Bool) → verdict-numbers (cond b (verdict.Yes k) (verdict.No k)) .refusal ≡ 0
+        answered k true = refl
+        answered k false = refl
 
 -- A CODE of bytes that is not refused
 module _ (bs : List ℕ) (bytes : byte-list bs ≡ true) (fine : section-code-refusal bs ≡ 0) where
@@ -133,6 +146,10 @@ module _ (bs : List ℕ) (bytes : byte-list bs ≡ true) (fine : section-code-re
     again-bytes : written-bytes s w ≡ rec-bytes (again .code)
     again-bytes = bytes-in-front (rec-bytes (again .code)) p w s (again .answer) (again .output)
 
+    -- what comes back is accepted as a code
+    pub back-accepted : section-code-refusal (written-bytes s w) ≡ 0
+    back-accepted = ap section-code-refusal again-bytes ∙ records-accepted (again .code) (again .least .code .good)
+
     -- THE CODE COMES BACK exactly when it is the least of what it describes
     pub back-exactly-least : (written-bytes s w ≡ bs → Least-section (section-of rs) rs) × (Least-section (section-of rs) rs → written-bytes s w ≡ bs)
     back-exactly-least = (
@@ -141,15 +158,27 @@ module _ (bs : List ℕ) (bytes : byte-list bs ≡ true) (fine : section-code-re
           again-bytes ∙ ap rec-bytes (least-section-unique kinds-before kinds-order (section-of rs) (again .code) rs (again .least) l) ∙ parts .bytes,
     )
 
-    -- THE LEAST TEST answers yes exactly then
-    pub yes-exactly-back : (v : Verdict) → Least-says bs v → (v ≡ verdict.Yes → written-bytes s w ≡ bs) × (written-bytes s w ≡ bs → v ≡ verdict.Yes)
-    yes-exactly-back v h = go (subst (λ (c : Checked). Least-answer c rs v) checked-fine h)
-      where
-        go :
-            ((v ≡ verdict.Yes) × Least-section (section-of rs) rs) ⊎ ((v ≡ verdict.No) × (Least-section (section-of rs) rs → ⊥))
-            → (v ≡ verdict.Yes → written-bytes s w ≡ bs) × (written-bytes s w ≡ bs → v ≡ verdict.Yes)
-        go (inl y) = (λ e. back-exactly-least .1 (y .1), λ e. y .0)
-        go (inr n) = (λ e. absurd (no-yes (sym (n .0) ∙ e)), λ e. absurd (n .1 (back-exactly-least .0 e)))
-          where
-            no-yes : verdict.No ≡ verdict.Yes → ⊥
-            no-yes e = let z : _≡_ {A = ℕ} 0 1 = cc in absurd (omega arith)
+    -- THE LEAST TEST answers yes exactly then, and its figure is the agreement with the code that comes back
+    module _ (v : Verdict) (h : Least-says bs v) where
+      told : Least-told rs v
+      told = subst (λ (c : Checked). Least-answer c rs v) checked-fine h
+
+      pub yes-exactly-back : ((k : ℕ) → v ≡ verdict.Yes k → written-bytes s w ≡ bs) × (written-bytes s w ≡ bs → v ≡ verdict.Yes (length rs))
+      yes-exactly-back = go (told-least told (parts .good))
+        where
+          no-yes : {k n : ℕ} → verdict.No n ≡ verdict.Yes k → ⊥
+          no-yes e = omega (arith, ap least-digit e)
+
+          go :
+              {n : ℕ}
+              → ((v ≡ verdict.Yes (length rs)) × Least-section (section-of rs) rs) ⊎ ((v ≡ verdict.No n) × (Least-section (section-of rs) rs → ⊥))
+              → ((k : ℕ) → v ≡ verdict.Yes k → written-bytes s w ≡ bs) × (written-bytes s w ≡ bs → v ≡ verdict.Yes (length rs))
+          go (inl y) = (λ k e. back-exactly-least .1 (y .1), λ e. y .0)
+          go (inr n) = (λ k e. absurd (no-yes (sym (n .0) ∙ e)), λ e. absurd (n .1 (back-exactly-least .0 e)))
+
+      pub agreement-back : verdict-agreement v ≡ agreement rs (code-records (written-bytes s w))
+      agreement-back =
+          told-agreement told
+          ∙ ap (agreement rs)
+          (least-section-unique kinds-before kinds-order (section-of rs) (told .code) (again .code) (told .least) (again .least)
+          ∙ sym (ap code-records again-bytes ∙ read-again (again .code)))

@@ -1,17 +1,18 @@
--- THE THREE DEMANDS, and the rules of matching, of the order, of lone sections, of cranes, of the book, of lists made elsewhere and of size limits:
--- each a record of statements over the bytes that a caller sees, and a theorem that proves it. A statement's hypothesis is what the contract of a
--- public entry says of its answer: `Code-says`, `Decode-says`, `Catalogue-says` and so on, from C `Code-returns` and its fellows. It holds of
--- whatever the call answers (r, v or t), where the lent output was o before the call and is z after it. Terms.antt has the terms that only these
--- statements need. That an answer and every lent byte follow from the input is in Determined.antt. Assumes nothing.
-use mathlib.Core.Path.{_≡_}
+-- THE THREE DEMANDS, and the rules of matching, of the order, of agreement, of lone sections, of cranes, of the book, of lists made elsewhere and of
+-- size limits: each a record of statements over the bytes that a caller sees, and a theorem that proves it. A statement's hypothesis is what the
+-- contract of a public entry says of its answer: `Code-says`, `Decode-says`, `Catalogue-says` and so on, from C `Code-returns` and its fellows. It
+-- holds of whatever the call answers (r, v or t), where the lent output was o before the call and is z after it. Terms.antt has the terms that only
+-- these statements need. That an answer and every lent byte follow from the input is in Determined.antt. Assumes nothing.
+use mathlib.Core.Path.{_≡_, sym, _∙_}
 use mathlib.Core.Bool.{true, false, cond}
 use mathlib.Core.List.{List, [], _∷_, _++_}
 use Prim.Native.Nat.{ℕ, _*_, _/_, _%_, _≤_, _<_}
 use lib.Dec.{eqb, lit≤}
-use lib.ListN.{length, getD, replicate}
+use lib.ListN.{length, getD, take, replicate}
 use denote.Ref.{RefT}
 use Rattle.laws.specs.Counting.{Different}
 use Rattle.laws.specs.Lent.{in-front}
+use Rattle.laws.specs.Rows.{row}
 use Rattle.graphs.specs.Drawing.{
   Drawing,
   devices,
@@ -26,7 +27,8 @@ use Rattle.graphs.specs.Drawing.{
 use Rattle.graphs.specs.Graph.{Section, lone-drawing}
 use Rattle.graphs.specs.DrawingBytes.{drawing-in-bytes, crane-in-bytes, drawing-bytes-in, drawing-bytes-accepted}
 use Rattle.graphs.specs.Survey.{survey, cranes, length-refusal, bytes-refusal, survey-refusal}
-use Rattle.codes.specs.Code.{Rec, fresh, rows-refusal, rec-bytes, code-records, before}
+use Rattle.codes.specs.Code.{Rec, rec-in, fresh, rows-refusal, rec-bytes, code-records, rec-before, before}
+use Rattle.codes.specs.Agreement.{agreement}
 use Rattle.codes.specs.SectionCode.{
   lone-bytes,
   section-code-refusal,
@@ -59,7 +61,13 @@ use Rattle.code_checks.specs.declared.answer.Verdict.{Verdict}
 use Rattle.code_checks.specs.declared.answer.Verdict.the-variants as verdict
 use Rattle.code_checks.specs.declared.answer.Compared.{Compared}
 use Rattle.code_checks.specs.declared.answer.Compared.the-variants as compared
-use Rattle.code_checks.specs.Answers.{written-numbers, verdict-numbers, compared-numbers}
+use Rattle.code_checks.specs.Answers.{
+  written-numbers,
+  verdict-agreement,
+  verdict-numbers,
+  compared-agreement,
+  compared-numbers,
+}
 use Rattle.coding.specs.CodeDrawing.{Code-says, Least-written}
 use Rattle.decoding.specs.Decoding.{Decode-says}
 use Rattle.coding.specs.LeastSays.{Least-says}
@@ -92,6 +100,8 @@ use Rattle.holvreiz.specs.Returns.{
 use Rattle.demands.specs.Terms.{
   written-bytes,
   written-entries,
+  order-digit,
+  least-digit,
   too-short,
   Refused-as,
   Survey-refused,
@@ -124,7 +134,14 @@ use Rattle.demands.specs.CraneRules as sheets
 use Rattle.demands.specs.Supports.{supports-fall, supports-same, cranes-at-most, cranes-all}
 use Rattle.demands.specs.EntryRefusals as entries
 use Rattle.demands.specs.CatalogueNumbers.{c-catalogue-refused, c-book-refused}
-use Rattle.demands.specs.Coding.{accepted-refusal, code-is-least, back-exactly-least, yes-exactly-back}
+use Rattle.demands.specs.Coding.{
+  accepted-refusal,
+  code-is-least,
+  back-accepted,
+  back-exactly-least,
+  yes-exactly-back,
+  agreement-back,
+}
 use Rattle.demands.specs.CodeWays.{
   code-drawn,
   drawn-accepted,
@@ -137,6 +154,7 @@ use Rattle.demands.specs.WholeCatalogues.{whole-catalogue}
 use Rattle.demands.specs.WholeBooks.{whole-book}
 use Rattle.demands.specs.Matches as matches
 use Rattle.demands.specs.Comparisons as comparisons
+use Rattle.demands.specs.Agreements as agreements
 use Rattle.demands.specs.OrderClauses.{order-clauses}
 use Rattle.demands.specs.LoneRules as lone
 use Rattle.demands.specs.LoneSurveys.{supports-none, survey-empty, lone-adds-none}
@@ -261,7 +279,7 @@ pub record Second-demand : Type 0 where
       → (written-bytes s w ≡ bs → Least-section (section-of (code-records bs)) (code-records bs))
       × (Least-section (section-of (code-records bs)) (code-records bs) → written-bytes s w ≡ bs)
   pub yes-when-back : {bs : List ℕ} {r s : Written} {o p z w : List ℕ} → Round-call bs r s o p z w → (v : Verdict) → Least-says bs v
-      → (v ≡ verdict.Yes → written-bytes s w ≡ bs) × (written-bytes s w ≡ bs → v ≡ verdict.Yes)
+      → ((k : ℕ) → v ≡ verdict.Yes k → written-bytes s w ≡ bs) × (written-bytes s w ≡ bs → v ≡ verdict.Yes (length (code-records bs)))
 
 pub second-demand : Second-demand
 second-demand =
@@ -321,13 +339,13 @@ matching-rule = record { map-written = matches.map-written; no-map = matches.no-
 pub record Order-rule : Type 0 where
   pub clauses : Order-clauses
   pub equal : (xs ys : List ℕ) (r : Compared) → section-code-refusal xs ≡ 0 → section-code-refusal ys ≡ 0 → Compare-says xs ys r
-      → (r ≡ compared.Equal → xs ≡ ys) × (xs ≡ ys → r ≡ compared.Equal)
+      → ((k : ℕ) → r ≡ compared.Equal k → xs ≡ ys) × (xs ≡ ys → r ≡ compared.Equal (length (code-records xs)))
   pub first-before : (xs ys : List ℕ) (r : Compared) → section-code-refusal xs ≡ 0 → section-code-refusal ys ≡ 0 → Compare-says xs ys r
-      → (r ≡ compared.Before → before (code-records xs) (code-records ys) ≡ true)
-      × (before (code-records xs) (code-records ys) ≡ true → r ≡ compared.Before)
+      → ((k : ℕ) → r ≡ compared.Before k → before (code-records xs) (code-records ys) ≡ true)
+      × (before (code-records xs) (code-records ys) ≡ true → r ≡ compared.Before (agreement (code-records xs) (code-records ys)))
   pub first-after : (xs ys : List ℕ) (r : Compared) → section-code-refusal xs ≡ 0 → section-code-refusal ys ≡ 0 → Compare-says xs ys r
-      → (r ≡ compared.After → before (code-records ys) (code-records xs) ≡ true)
-      × (before (code-records ys) (code-records xs) ≡ true → r ≡ compared.After)
+      → ((k : ℕ) → r ≡ compared.After k → before (code-records ys) (code-records xs) ≡ true)
+      × (before (code-records ys) (code-records xs) ≡ true → r ≡ compared.After (agreement (code-records xs) (code-records ys)))
 
 pub order-rule : Order-rule
 order-rule =
@@ -336,6 +354,72 @@ order-rule =
       equal = λ xs ys r a b says. (comparisons.if-equal xs ys r a b says, comparisons.equal-if xs ys r a b says);
       first-before = λ xs ys r a b says. (comparisons.if-before xs ys r a b says, comparisons.before-if xs ys r a b says);
       first-after = λ xs ys r a b says. (comparisons.if-after xs ys r a b says, comparisons.after-if xs ys r a b says);
+    }
+
+-- TWO ACCEPTED CODES, and what comparing them answers
+pub record Comparing-call (xs ys : List ℕ) (r : Compared) : Type 0 where
+  pub first : section-code-refusal xs ≡ 0
+  pub second : section-code-refusal ys ≡ 0
+  pub says : Compare-says xs ys r
+
+-- THE RULE OF AGREEMENT: comparing gives the number of whole records before the first on which the two codes part, and the least test gives it
+-- of the code and the least one
+pub record Agreement-rule : Type 0 where
+  pub figure : {xs ys : List ℕ} {r : Compared} → Comparing-call xs ys r → compared-agreement r ≡ agreement (code-records xs) (code-records ys)
+  -- so far the bytes are equal; it is at most both lengths, and no greater number of whole records is common to both
+  pub equal : {xs ys : List ℕ} {r : Compared} → Comparing-call xs ys r → take (5 * compared-agreement r) xs ≡ take (5 * compared-agreement r) ys
+  pub within : {xs ys : List ℕ} {r : Compared} → Comparing-call xs ys r
+      → (5 * compared-agreement r ≤ length xs) × (5 * compared-agreement r ≤ length ys)
+  pub longest : {xs ys : List ℕ} {r : Compared} → Comparing-call xs ys r → (k : ℕ) → 5 * k ≤ length xs → 5 * k ≤ length ys
+      → take (5 * k) xs ≡ take (5 * k) ys → k ≤ compared-agreement r
+  -- where both go on, the next records differ, and they decide the order
+  pub parts : {xs ys : List ℕ} {r : Compared} → Comparing-call xs ys r → 5 * compared-agreement r < length xs → 5 * compared-agreement r < length ys
+      → row 5 (compared-agreement r) xs ≡ row 5 (compared-agreement r) ys → ⊥
+  pub decides : {xs ys : List ℕ} {r : Compared} → Comparing-call xs ys r → 5 * compared-agreement r < length xs → 5 * compared-agreement r < length ys
+      → (r ≡ compared.Before (compared-agreement r)
+      → rec-before (rec-in (row 5 (compared-agreement r) xs)) (rec-in (row 5 (compared-agreement r) ys)) ≡ true)
+      × (rec-before (rec-in (row 5 (compared-agreement r) xs)) (rec-in (row 5 (compared-agreement r) ys)) ≡ true
+      → r ≡ compared.Before (compared-agreement r))
+  pub decides-after : {xs ys : List ℕ} {r : Compared} → Comparing-call xs ys r → 5 * compared-agreement r < length xs
+      → 5 * compared-agreement r < length ys
+      → (r ≡ compared.After (compared-agreement r)
+      → rec-before (rec-in (row 5 (compared-agreement r) ys)) (rec-in (row 5 (compared-agreement r) xs)) ≡ true)
+      × (rec-before (rec-in (row 5 (compared-agreement r) ys)) (rec-in (row 5 (compared-agreement r) xs)) ≡ true
+      → r ≡ compared.After (compared-agreement r))
+  -- a code that begins a longer one, or is equal, gives the number of its own records; either way round it is the same
+  pub begins : {xs ys : List ℕ} {r : Compared} → Comparing-call xs ys r → (zs : List ℕ) → ys ≡ xs ++ zs → 5 * compared-agreement r ≡ length xs
+  pub either-way : {xs ys : List ℕ} {r : Compared} → Comparing-call xs ys r → (s : Compared) → Compare-says ys xs s
+      → compared-agreement s ≡ compared-agreement r
+  -- the least test gives what comparing the code with the least one gives, that which coding writes of the drawing that it decodes to
+  pub least : {bs : List ℕ} {r s : Written} {o p z w : List ℕ} → Round-call bs r s o p z w → (v : Verdict) → Least-says bs v
+      → (c : Compared) → Compare-says bs (written-bytes s w) c → verdict-agreement v ≡ compared-agreement c
+  -- and says yes exactly if that is the whole length
+  pub yes-whole : (bs : List ℕ) (v : Verdict) → section-code-refusal bs ≡ 0 → Least-says bs v
+      → ((k : ℕ) → v ≡ verdict.Yes k → 5 * k ≡ length bs) × (5 * verdict-agreement v ≡ length bs → v ≡ verdict.Yes (length bs / 5))
+  -- from C: the agreement is the count divided by 256, what else is told is the rest; a refusal counts 0
+  pub c-compare : (r : Compared) → (compared-numbers r .count / 256 ≡ compared-agreement r) × (compared-numbers r .count % 256 ≡ order-digit r)
+  pub c-is-least : (v : Verdict) → (verdict-numbers v .count / 256 ≡ verdict-agreement v) × (verdict-numbers v .count % 256 ≡ least-digit v)
+
+pub agreement-rule : Agreement-rule
+agreement-rule =
+    record {
+      figure = λ {xs} {ys} {r} c. comparisons.figure-is xs ys r (c .first) (c .second) (c .says);
+      equal = λ {xs} {ys} {r} c. agreements.figure-equal xs ys r (c .first) (c .second) (c .says);
+      within = λ {xs} {ys} {r} c. agreements.figure-within xs ys r (c .first) (c .second) (c .says);
+      longest = λ {xs} {ys} {r} c. agreements.figure-longest xs ys r (c .first) (c .second) (c .says);
+      parts = λ {xs} {ys} {r} c. agreements.figure-parts xs ys r (c .first) (c .second) (c .says);
+      decides = λ {xs} {ys} {r} c. agreements.figure-decides xs ys r (c .first) (c .second) (c .says);
+      decides-after = λ {xs} {ys} {r} c. agreements.figure-decides-after xs ys r (c .first) (c .second) (c .says);
+      begins = λ {xs} {ys} {r} c. agreements.figure-begins xs ys r (c .first) (c .second) (c .says);
+      either-way = λ {xs} {ys} {r} c. agreements.figure-either-way xs ys r (c .first) (c .second) (c .says);
+      least = λ {bs} {r} {s} {o} {p} {z} {w} c v says k compares.
+          let d = c .decoding in
+          agreement-back bs (d .bytes) (d .code) o p (d .room) (c .room) z w r s (d .says) (c .says) v says
+          ∙ sym (comparisons.figure-is bs (written-bytes s w) k (d .code)
+          (back-accepted bs (d .bytes) (d .code) o p (d .room) (c .room) z w r s (d .says) (c .says)) compares);
+      yes-whole = λ bs v fine says. (agreements.yes-whole bs v fine says, agreements.whole-yes bs v fine says);
+      c-compare = agreements.compared-count-tells;
+      c-is-least = agreements.verdict-count-tells;
     }
 
 -- LONE SECTIONS, one device without cables: what the demands and the rules come to for them
@@ -357,11 +441,11 @@ pub record Lone-rule : Type 0 where
   pub elsewhere-checked : (rs ss : List Rec) (e : Rec) → rows-refusal fresh rs ≡ 0 → e .i ≡ 0 → e .j ≡ 0
       → 2 ≤ length (rs ++ (e ∷ ss)) → length (rs ++ (e ∷ ss)) ≤ 20
       → section-code-checked (rec-bytes (rs ++ (e ∷ ss))) ≡ Refused (refusal.Step (length rs))
-  -- it is least, comes before every code with cables, and two stand by their kinds
-  pub is-least : (k : ℕ) (v : Verdict) → Least-says (lone-five k) v → v ≡ verdict.Yes
+  -- it is least, comes before every code with cables, and two stand by their kinds; it agrees with none but itself
+  pub is-least : (k : ℕ) (v : Verdict) → Least-says (lone-five k) v → v ≡ verdict.Yes 1
   pub first : (k : ℕ) (ys : List ℕ) (r : Compared) → section-code-refusal ys ≡ 0 → lone-bytes ys ≡ false → Compare-says (lone-five k) ys r
-      → r ≡ compared.Before
-  pub by-kind : (k l : ℕ) (r : Compared) → k < l → Compare-says (lone-five k) (lone-five l) r → r ≡ compared.Before
+      → r ≡ compared.Before 0
+  pub by-kind : (k l : ℕ) (r : Compared) → k < l → Compare-says (lone-five k) (lone-five l) r → r ≡ compared.Before 0
   -- as a pattern it is sent to the lowest device of its kind, and to none exactly if there is none
   pub map : (xs ys : List ℕ) (n : ℕ) (o z : List ℕ) → drawing-in xs .cables ≡ [] → Match-says xs ys (matched.Map n) o z
       → Lone-mapped (kind (drawing-in xs) 0) (drawing-in ys) o z

@@ -20,6 +20,8 @@ use Rattle.graphs.specs.Survey as surveys
 use Rattle.graphs.specs.Survey.{length-refusal, bytes-refusal, survey-refusal, drawing-count}
 use Rattle.codes.specs.Code.{Rec, code-records, kinds-before}
 use Rattle.codes.specs.CodeOrder.{kinds-order}
+use Rattle.codes.specs.Agreement.{agreement}
+use Rattle.codes.specs.SectionCode.{section-of}
 use Rattle.codes.specs.SectionCodes.{least-section-unique}
 use Rattle.codes.specs.SectionCode.{section-records}
 use Rattle.growth.specs.Catalogue.{Entry, all-bytes, Often-in, support-of}
@@ -46,7 +48,7 @@ use Rattle.code_checks.specs.Answers.{Numbers, written-numbers, verdict-numbers
 use Rattle.code_checks.specs.SectionChecks.{section-code-checked}
 use Rattle.coding.specs.CodeDrawing.{coding-refusal, Code-as, Code-says}
 use Rattle.decoding.specs.Decoding.{Decode-says}
-use Rattle.coding.specs.LeastSays.{Least-answer, Least-says}
+use Rattle.coding.specs.LeastSays.{verdict-of, Least-answer, Least-says}
 use Rattle.comparing.specs.Comparing.{Compare-says}
 use Rattle.matching.specs.declared.answer.Matched.{Matched}
 use Rattle.matching.specs.declared.answer.Matched.the-variants as matched
@@ -195,10 +197,9 @@ least-determined bs v w = go (section-code-checked bs)
 
     go : (c : Checked) → Least-answer c rs v → Least-answer c rs w → v ≡ w
     go (checked.Refused x) a b = a ∙ sym b
-    go checked.Accepted (inl a) (inl b) = a .0 ∙ sym (b .0)
-    go checked.Accepted (inl a) (inr b) = absurd (b .1 (a .1))
-    go checked.Accepted (inr a) (inl b) = absurd (a .1 (b .1))
-    go checked.Accepted (inr a) (inr b) = a .0 ∙ sym (b .0)
+    go checked.Accepted a b =
+        let e = least-section-unique kinds-before kinds-order (section-of rs) (a .code) (b .code) (a .least) (b .least) in
+        a .answer ∙ ap (λ (ls : List Rec). verdict-of (agreement rs ls) (length rs)) e ∙ sym (b .answer)
 
 -- COMPARING
 pub compare-determined : (xs ys : List ℕ) (r s : Compared) → Compare-says xs ys r → Compare-says xs ys s → r ≡ s

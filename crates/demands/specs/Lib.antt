@@ -22,6 +22,7 @@ pub mod ReadEntries
 pub mod Matches
 pub mod Comparisons
 pub mod OrderClauses
+pub mod Agreements
 pub mod LoneRules
 pub mod LoneSurveys
 pub mod CraneRules

@@ -42,11 +42,13 @@ use Rattle.codes.specs.Code.{
   recs-in,
   rec-bytes,
   rows-refusal,
+  rows-good,
   code-records,
   kinds-before,
-  before,
 }
-use Rattle.codes.specs.ReadRows.{rows-cons}
+use Rattle.codes.specs.Agreement.{agreement}
+use Rattle.codes.specs.AgreementLaws.{agreement-apart}
+use Rattle.codes.specs.ReadRows.{begun-from-test, rows-cons, good-from-test}
 use Rattle.codes.specs.CodeBytes.{accepted-code, rec-bytes-length}
 use Rattle.codes.specs.SectionCode.{
   lone-record,
@@ -59,7 +61,6 @@ use Rattle.codes.specs.SectionCode.{
 }
 use Rattle.codes.specs.SectionCodes.{same-lone, lone-code-of, lone-only, lone-first, lone-by-kind}
 use Rattle.codes.specs.SectionBytes.{Accepted-as, accepted-as, read-again}
-use Rattle.records.specs.declared.refusal.Checked.{Checked}
 use Rattle.records.specs.declared.refusal.Checked.the-variants.{Accepted, Refused}
 use Rattle.records.specs.declared.refusal.Refusal.the-variants as refusal
 use Rattle.readings.specs.Readings.{rows-checked, code-length-checked, code-checked}
@@ -71,8 +72,8 @@ use Rattle.code_checks.specs.declared.answer.Compared.{Compared}
 use Rattle.code_checks.specs.declared.answer.Compared.the-variants as compared
 use Rattle.code_checks.specs.SectionCheckLaws.{section-checked-accepted, section-accepted-checked}
 use Rattle.coding.specs.CodeDrawing.{Least-written}
-use Rattle.coding.specs.LeastSays.{Least-answer, Least-says}
-use Rattle.coding.specs.LeastSaysLaws.{lone-code-least}
+use Rattle.coding.specs.LeastSays.{Least-says}
+use Rattle.coding.specs.LeastSaysLaws.{lone-told}
 use Rattle.decoding.specs.Decoding.{Decode-says}
 use Rattle.comparing.specs.Comparing.{Compare-says}
 use Rattle.matching.specs.declared.answer.Matched.{Matched}
@@ -82,6 +83,7 @@ use Rattle.matching.specs.Outcomes.{match-answers}
 use Rattle.demands.specs.Terms.{written-bytes, Mapped, Contained, lone-five, Least-map-written, Lone-mapped, No-device}
 use Rattle.demands.specs.Coding.{bytes-in-front}
 use Rattle.demands.specs.CodeWays.{code-drawn, mapped-from-same, same-from-mapped}
+use Rattle.demands.specs.Determined.{least-determined}
 use Rattle.demands.specs.Comparisons.{before-if}
 use Rattle.demands.specs.Matches.{map-written, no-map, not-contained}
 
@@ -220,28 +222,41 @@ five-lone : (k : ℕ) → lone-bytes (lone-five k) ≡ true
 unfolding lone-bytes lone-row recs-in rows rec-in
 five-lone k = refl
 
-pub lone-is-least : (k : ℕ) (v : Verdict) → Least-says (lone-five k) v → v ≡ verdict.Yes
-lone-is-least k v says =
-    go (subst (λ (c : Checked). Least-answer c (code-records (lone-five k)) v) (section-accepted-checked (lone-five k) (five-fine k)) says)
+pub lone-is-least : (k : ℕ) (v : Verdict) → Least-says (lone-five k) v → v ≡ verdict.Yes 1
+lone-is-least k v says = least-determined (lone-five k) v (verdict.Yes 1) says told
   where
-    go : Least-answer Accepted (code-records (lone-five k)) v → v ≡ verdict.Yes
-    go (inl y) = y .0
-    go (inr n) = absurd (n .1 (lone-code-least (lone-five k) (five-fine k) (five-lone k)))
+    told : Least-says (lone-five k) (verdict.Yes 1)
+    told = rw (section-accepted-checked (lone-five k) (five-fine k)) (lone-told (lone-five k) (five-fine k) (five-lone k))
 
--- THE ORDER: before every code with cables, and by the kind
+-- THE ORDER: before every code with cables, and by the kind; with none of them it agrees
+lone-apart : (k : ℕ) (rs : List Rec) → rows-good rs ≡ true → agreement (lone-code k) rs ≡ 0
+unfolding lone-record
+lone-apart k [] g = absurd (omega (arith, good-from-test [] g .one))
+lone-apart k (r ∷ rs) g =
+    let j = begun-from-test r (rows-cons fresh r rs (good-from-test (r ∷ rs) g .accepted) .step) .1 in
+    agreement-apart [] rs (lone-record k) r (λ e. omega (arith, j, ap (λ (z : Rec). z .j) e))
+
+pub lone-kinds-apart : (k l : ℕ) → (k ≡ l → ⊥) → agreement (lone-code k) (lone-code l) ≡ 0
+unfolding lone-record
+lone-kinds-apart k l n = agreement-apart [] [] (lone-record k) (lone-record l) (λ e. n (ap (λ (z : Rec). z .ki) e))
+
 pub first :
     (k : ℕ) (ys : List ℕ) (r : Compared) → section-code-refusal ys ≡ 0 → lone-bytes ys ≡ false → Compare-says (lone-five k) ys r
-    → r ≡ compared.Before
-first k ys r fine t says = before-if (lone-five k) ys r (five-fine k) fine says (rw (five-records k) (go (accepted-as ys fine)))
+    → r ≡ compared.Before 0
+first k ys r fine t says = go (accepted-as ys fine)
   where
-    go : Accepted-as ys → before (lone-code k) (code-records ys) ≡ true
+    go : Accepted-as ys → r ≡ compared.Before 0
     go (Accepted-as.lone l u e) = absurd (true-and-false u t)
-    go (Accepted-as.cabled u z) = lone-first kinds-before k (code-records ys) (accepted-code ys z .good)
+    go (Accepted-as.cabled u z) =
+        let good = accepted-code ys z .good in
+        before-if (lone-five k) ys r (five-fine k) fine says (rw (five-records k) (lone-first kinds-before k (code-records ys) good))
+        ∙ ap compared.Before (ap (λ (rs : List Rec). agreement rs (code-records ys)) (five-records k) ∙ lone-apart k (code-records ys) good)
 
-pub by-kind : (k l : ℕ) (r : Compared) → k < l → Compare-says (lone-five k) (lone-five l) r → r ≡ compared.Before
+pub by-kind : (k l : ℕ) (r : Compared) → k < l → Compare-says (lone-five k) (lone-five l) r → r ≡ compared.Before 0
 by-kind k l r h says =
     before-if (lone-five k) (lone-five l) r (five-fine k) (five-fine l) says
     (rw (five-records k, five-records l) (lone-by-kind k l ∙ lt-ltb k l h))
+    ∙ ap compared.Before (ap₂ agreement (five-records k) (five-records l) ∙ lone-kinds-apart k l (λ e. omega arith))
 
 -- THE MAP: every device of its kind takes it
 not-before : (u v : ℕ) → u < v → map-before (v ∷ []) (u ∷ []) ≡ true → ⊥

@@ -21,10 +21,20 @@ use Rattle.code_checks.specs.declared.answer.Verdict.{Verdict}
 use Rattle.code_checks.specs.declared.answer.Verdict.the-variants as verdict
 use Rattle.code_checks.specs.declared.answer.Compared.{Compared}
 use Rattle.code_checks.specs.declared.answer.Compared.the-variants as compared
-use Rattle.code_checks.specs.Answers.{Numbers, written-numbers, verdict-numbers, compared-numbers, put-answer}
+use Rattle.code_checks.specs.Answers.{
+  Numbers,
+  written-numbers,
+  verdict-agreement,
+  verdict-numbers,
+  compared-agreement,
+  compared-numbers,
+  put-answer,
+}
 use Rattle.records.specs.Refusals.{or-else}
 use Rattle.code_checks.specs.SectionChecks.{section-code-checked}
 use Rattle.coding.specs.CodeDrawing.{coding-refusal, Code-as, Code-says}
+use Rattle.coding.specs.LeastSaysLaws.{least-agreement-most}
+use Rattle.comparing.specs.ComparingLaws.{compare-agreement-most}
 use Rattle.decoding.specs.Decoding.{decode-checked, decoded-bytes}
 use Rattle.decoding.specs.DecodingLaws.{decoded-length}
 use Rattle.matching.specs.declared.answer.Matched.{Matched}
@@ -50,7 +60,7 @@ use Rattle.holvreiz.specs.Returns.{
 abbrev Tells-numbers : (x : ℕ) → Numbers → Type 0
 Tells-numbers x n = Tells x (n .refusal) (n .count) 0
 
-returned : {x : ℕ} (n c : ℕ) → x ≡ packed n c 0 → n ≤ 18 → c ≤ 100 → Tells x n c 0
+returned : {x : ℕ} (n c : ℕ) → x ≡ packed n c 0 → n ≤ 18 → c ≤ 5122 → Tells x n c 0
 returned n c e h g = rw e (packed-tells n c 0 (omega arith) (omega arith))
 
 -- CODING: at most 20 records
@@ -64,7 +74,7 @@ code-few rs g =
     let size = and-split (leb 1 (length rs) && leb (length rs) 20) (eqb (records-refusal rs) 0) g .0 in
     leb-true (length rs) 20 (and-split (leb 1 (length rs)) (leb (length rs) 20) size .1)
 
-code-as-count : (n : ℕ) (d : Drawing) (r : Written) (o z : List ℕ) → Code-as n d r o z → written-numbers r .count ≤ 100
+code-as-count : (n : ℕ) (d : Drawing) (r : Written) (o z : List ℕ) → Code-as n d r o z → written-numbers r .count ≤ 5122
 unfolding Code-as
 code-as-count zero d r o z s =
     rw (s .answer) (omega (arith, rec-bytes-length (s .code), code-few (s .code) (s .least .code .good)))
@@ -80,7 +90,7 @@ first-accepted : (a b : Checked) → or-else a b ≡ Accepted → a ≡ Accepted
 first-accepted Accepted b e = refl
 first-accepted (Refused r) b e = e
 
-decode-count : (bs o : List ℕ) (c : Checked) → decode-checked bs o ≡ c → written-numbers (put-answer c (decoded-bytes bs)) .count ≤ 100
+decode-count : (bs o : List ℕ) (c : Checked) → decode-checked bs o ≡ c → written-numbers (put-answer c (decoded-bytes bs)) .count ≤ 5122
 unfolding decode-checked
 decode-count bs o Accepted e =
     omega (arith, decoded-length bs o (first-accepted (section-code-checked bs) _ e))
@@ -90,26 +100,28 @@ pub decode-tells : {bs : List ℕ} {x : ℕ} {o z : List ℕ} (c : Decode-return
 decode-tells {bs} {x} {o} {z} c =
     returned _ _ (c .number) (written-refusal (c .answer)) (rw (c .says .answer) (decode-count bs o (decode-checked bs o) refl))
 
--- YES OR NO, and the order of two codes
-verdict-small : (v : Verdict) → (verdict-numbers v .refusal ≤ 18) × (verdict-numbers v .count ≤ 100)
-verdict-small verdict.Yes = (lit≤ tt, lit≤ tt)
-verdict-small verdict.No = (lit≤ tt, lit≤ tt)
-verdict-small (verdict.Refused r) = (number-small r, lit≤ tt)
+-- THE LEAST TEST AND COMPARING: codes agree in at most 20 records
+verdict-small : (v : Verdict) → verdict-agreement v ≤ 20 → (verdict-numbers v .refusal ≤ 18) × (verdict-numbers v .count ≤ 5122)
+verdict-small (verdict.Yes k) h = (lit≤ tt, omega arith)
+verdict-small (verdict.No k) h = (lit≤ tt, omega arith)
+verdict-small (verdict.Refused r) h = (number-small r, lit≤ tt)
 
 pub least-tells : {bs : List ℕ} {x : ℕ} (c : Least-returns bs x) → Tells-numbers x (verdict-numbers (c .answer))
-least-tells c = let s = verdict-small (c .answer) in returned _ _ (c .number) (s .0) (s .1)
+least-tells {bs} c =
+    let s = verdict-small (c .answer) (least-agreement-most bs (c .answer) (c .says)) in returned _ _ (c .number) (s .0) (s .1)
 
-compared-small : (r : Compared) → (compared-numbers r .refusal ≤ 18) × (compared-numbers r .count ≤ 100)
-compared-small compared.Equal = (lit≤ tt, lit≤ tt)
-compared-small compared.Before = (lit≤ tt, lit≤ tt)
-compared-small compared.After = (lit≤ tt, lit≤ tt)
-compared-small (compared.Refused r) = (number-small r, lit≤ tt)
+compared-small : (r : Compared) → compared-agreement r ≤ 20 → (compared-numbers r .refusal ≤ 18) × (compared-numbers r .count ≤ 5122)
+compared-small (compared.Equal k) h = (lit≤ tt, omega arith)
+compared-small (compared.Before k) h = (lit≤ tt, omega arith)
+compared-small (compared.After k) h = (lit≤ tt, omega arith)
+compared-small (compared.Refused r) h = (number-small r, lit≤ tt)
 
 pub compare-tells : {xs ys : List ℕ} {x : ℕ} (c : Compare-returns xs ys x) → Tells-numbers x (compared-numbers (c .answer))
-compare-tells c = let s = compared-small (c .answer) in returned _ _ (c .number) (s .0) (s .1)
+compare-tells {xs} {ys} c =
+    let s = compared-small (c .answer) (compare-agreement-most xs ys (c .answer) (c .says)) in returned _ _ (c .number) (s .0) (s .1)
 
 -- MATCHING: at most 10 devices
-match-small : (xs ys : List ℕ) (r : Matched) (o z : List ℕ) → Match-says xs ys r o z → (match-refusal r ≤ 18) × (match-count r ≤ 100)
+match-small : (xs ys : List ℕ) (r : Matched) (o z : List ℕ) → Match-says xs ys r o z → (match-refusal r ≤ 18) × (match-count r ≤ 5122)
 match-small xs ys (matched.Map n) o z s =
     let a = match-answers s refl in
     let w = written-map a n refl in
@@ -121,7 +133,7 @@ pub match-tells :
     {xs ys : List ℕ} {x : ℕ} {o z : List ℕ} (c : Match-returns xs ys x o z) → Tells x (match-refusal (c .answer)) (match-count (c .answer)) 0
 match-tells {xs} {ys} {x} {o} {z} c = let s = match-small xs ys (c .answer) o z (c .says) in returned _ _ (c .number) (s .0) (s .1)
 
-same-small : (r : Sameness) → (same-refusal r ≤ 18) × (same-value r ≤ 100)
+same-small : (r : Sameness) → (same-refusal r ≤ 18) × (same-value r ≤ 5122)
 same-small sameness.Yes = (lit≤ tt, lit≤ tt)
 same-small sameness.No = (lit≤ tt, lit≤ tt)
 same-small (sameness.Refused r) = (number-small r, lit≤ tt)

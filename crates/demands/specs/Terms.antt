@@ -25,6 +25,10 @@ use Rattle.books.specs.Book.{Small, unsupported, book-refusal}
 use Rattle.records.specs.declared.refusal.Refusal.the-variants.{OutputLength, ListLength}
 use Rattle.code_checks.specs.declared.answer.Written.{Written}
 use Rattle.code_checks.specs.declared.answer.Written.the-variants as written
+use Rattle.code_checks.specs.declared.answer.Verdict.{Verdict}
+use Rattle.code_checks.specs.declared.answer.Verdict.the-variants as verdict
+use Rattle.code_checks.specs.declared.answer.Compared.{Compared}
+use Rattle.code_checks.specs.declared.answer.Compared.the-variants as compared
 use Rattle.laws.specs.Lent.{in-front}
 use Rattle.records.specs.declared.catalogued.Catalogued.{Catalogued}
 use Rattle.records.specs.declared.catalogued.Catalogued.the-variants.{Entries, Refused}
@@ -50,6 +54,18 @@ written-bytes (written.Refused r) z = []
 -- and those of the n entries that a catalogue has
 abbrev pub written-entries : (n : ℕ) → (out-now : List ℕ) → List ℕ
 written-entries n z = take (42 * n) z
+
+-- WHAT COMPARING AND THE LEAST TEST TELL beside the agreement, in the paper's numbers: 0 equal, 1 before, 2 after; 1 yes, 0 no; 0 of a refusal
+abbrev pub order-digit : Compared → ℕ
+order-digit (compared.Equal k) = 0
+order-digit (compared.Before k) = 1
+order-digit (compared.After k) = 2
+order-digit (compared.Refused r) = 0
+
+abbrev pub least-digit : Verdict → ℕ
+least-digit (verdict.Yes k) = 1
+least-digit (verdict.No k) = 0
+least-digit (verdict.Refused r) = 0
 
 -- 15: too short for the whole answer
 abbrev pub too-short : (needed : ℕ) → (out : List ℕ) → ℕ

@@ -1,5 +1,5 @@
 // The calls that are lent no output, with their answers as numbers: yes, before and after are 1, 1 and 2, as the C interface
-// has them.
+// has them. How far two codes agree is the number of the record on which they part.
 use checks::drawing::check_drawing;
 use checks::survey::check_survey;
 use code_checks::answer::Compared;
@@ -23,17 +23,17 @@ use transcript::call::SAME;
 
 fn verdict(answer: Verdict) -> Answer {
     match answer {
-        Verdict::No => Answer(0, 0, 0),
-        Verdict::Yes => Answer(0, 0, 1),
+        Verdict::No(agreement) => Answer(0, agreement, 0),
+        Verdict::Yes(agreement) => Answer(0, agreement, 1),
         Verdict::Refused(reason) => refused(reason, 0),
     }
 }
 
 fn compared(answer: Compared) -> Answer {
     match answer {
-        Compared::Equal => Answer(0, 0, 0),
-        Compared::Before => Answer(0, 0, 1),
-        Compared::After => Answer(0, 0, 2),
+        Compared::Equal(agreement) => Answer(0, agreement, 0),
+        Compared::Before(agreement) => Answer(0, agreement, 1),
+        Compared::After(agreement) => Answer(0, agreement, 2),
         Compared::Refused(reason) => refused(reason, 0),
     }
 }

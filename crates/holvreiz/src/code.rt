@@ -24,7 +24,8 @@ pub extern "C" fn holvreiz_decode(code: &[u8], output: &mut [u8]) -> u64
     written_number(decode(code, output))
 }
 
-// Whether a code is the least of the drawing that it describes. The count is 1 for yes, 0 for no.
+// Whether a code is the least of the drawing that it describes, and how far it agrees with the least one. The count is 256 times the agreement,
+// and 1 more for yes.
 #[no_mangle]
 pub extern "C" fn holvreiz_is_least(code: &[u8]) -> u64
     ensures { λ r. ⌜ Least-returns (now (code .entry)) r ⌝ }
@@ -32,7 +33,7 @@ pub extern "C" fn holvreiz_is_least(code: &[u8]) -> u64
     verdict_number(is_least(code))
 }
 
-// Where the first of two codes comes. The count is 0 for equal, 1 for before, 2 for after.
+// Where the first of two codes comes, and how far they agree. The count is 256 times the agreement, and 1 more for before, 2 more for after.
 #[no_mangle]
 pub extern "C" fn holvreiz_compare(first: &[u8], second: &[u8]) -> u64
     ensures { λ r. ⌜ Compare-returns (now (first .entry)) (now (second .entry)) r ⌝ }

@@ -7,6 +7,7 @@ pub mod Tests
 pub mod Lists
 pub mod Counting
 pub mod Orders
+pub mod CommonFronts
 pub mod Rows
 pub mod Grids
 pub mod Minimum
@@ -14,6 +15,7 @@ pub mod Rising
 pub mod Passing
 pub mod Selections
 pub mod Decides
+pub mod FirstSeen
 pub mod Masks
 pub mod LowestBits
 pub mod PutRecordLaws

@@ -6,7 +6,7 @@ use Prim.Native.Nat.{ℕ, zero, suc, _+_, _≤_, _<_}
 use native.Mathlib.Nat.{not-suc-le-zero, le-of-suc-le-suc}
 use native.Mathlib.Omega.{arith}
 use native.Mathlib.Decide.{decLt}
-use lib.ListN.{length, getD, length-append, List·getD-append}
+use lib.ListN.{length, getD, take, drop, length-append, List·getD-append}
 use lib.Seq.{getD-at}
 
 -- v is an element of a list
@@ -111,11 +111,35 @@ module _ {A : Type 0} where
       go : Snoc (y ∷ xs) n → Snoc (x ∷ y ∷ xs) (suc n)
       go s = record { front = x ∷ s .front; last = s .last; whole = ap {B = List A} (λ l. x ∷ l) (s .whole); size = ap suc (s .size) }
 
+-- FRONTS of a list, and what is left of them behind k elements
+module _ {A : Type 0} where
+  pub take-most : (m : ℕ) (xs : List A) → length (take m xs) ≤ m
+  take-most zero xs = omega arith
+  take-most (suc m) [] = omega arith
+  take-most (suc m) (x ∷ xs) = omega (arith, take-most m xs)
+
+  -- a longer front has something more at its end
+  pub drop-take-more : (k j m : ℕ) (xs : List A) → j ≤ m → (ys : List A) × (drop k (take m xs) ≡ drop k (take j xs) ++ ys)
+  drop-take-more zero zero m xs h = (take m xs, refl)
+  drop-take-more zero (suc j) zero xs h = absurd (not-suc-le-zero h)
+  drop-take-more zero (suc j) (suc m) [] h = ([], refl)
+  drop-take-more zero (suc j) (suc m) (x ∷ xs) h =
+      let r = drop-take-more zero j m xs (le-of-suc-le-suc h) in (r .0, ap {B = List A} (λ l. x ∷ l) (r .1))
+  drop-take-more (suc k) zero m xs h = (drop (suc k) (take m xs), refl)
+  drop-take-more (suc k) (suc j) zero xs h = absurd (not-suc-le-zero h)
+  drop-take-more (suc k) (suc j) (suc m) [] h = ([], refl)
+  drop-take-more (suc k) (suc j) (suc m) (x ∷ xs) h = drop-take-more k j m xs (le-of-suc-le-suc h)
+
 -- MAPS over a list
 module _ {A B : Type 0} (f : A → B) where
   pub mem-map : {v : A} {xs : List A} → Mem v xs → Mem (f v) (map f xs)
   mem-map (here e) = here (ap f e)
   mem-map (there m) = there (mem-map m)
+
+  pub map-take : (k : ℕ) (xs : List A) → take k (map f xs) ≡ map f (take k xs)
+  map-take zero xs = refl
+  map-take (suc k) [] = refl
+  map-take (suc k) (x ∷ xs) = ap {B = List B} (λ l. f x ∷ l) (map-take k xs)
 
   pub map-append : (xs ys : List A) → map f (xs ++ ys) ≡ map f xs ++ map f ys
   map-append [] ys = refl

@@ -106,6 +106,12 @@ module _ {A : Type 0} where
       (rows-snoc w n (drop w xs) ∙ ap (snoc (rows w n (drop w xs))) (row-tail w n xs))
 
   -- n records and m more
+  pub rows-take : (w k n : ℕ) (xs : List A) → k ≤ n → take k (rows w n xs) ≡ rows w k xs
+  unfolding rows
+  rows-take w zero n xs h = refl
+  rows-take w (suc k) zero xs h = absurd (not-suc-le-zero h)
+  rows-take w (suc k) (suc n) xs h = ap {B = List (List A)} (λ l. take w xs ∷ l) (rows-take w k n (drop w xs) (le-of-suc-le-suc h))
+
   pub rows-split : (w n m : ℕ) (xs : List A) → rows w (n + m) xs ≡ rows w n xs ++ rows w m (drop (w * n) xs)
   unfolding rows
   rows-split w zero m xs = rw (mul-zero, zero-add)

@@ -1,5 +1,5 @@
-// Whether a branch that follows a code sees a record before the code's own: at each numbering of the code's first records it looks for
-// one before the next. Numbers are given in place and taken back, so that no array is copied.
+// The first record of a code before which a branch that follows it sees another: at each numbering of the code's first records it looks for one
+// before the next. Numbers are given in place and taken back, so that no array is copied.
 use branches::branch::device_at;
 use branches::branch::give_number;
 use branches::branch::take_number;
@@ -13,19 +13,19 @@ use least_seen::seen::wanted_label;
 use records::code::Code;
 use records::drawing::Drawing;
 use tables::table::CELLS;
-ghost use Rattle.laws.specs.Decides.{Decides};
 ghost use Rattle.codes.specs.Twins.{Twins-noted};
-ghost use Rattle.least_seen.specs.Betters.{Better-below};
-ghost use Rattle.branches.specs.Branches.{in-place};
-ghost use Rattle.least_seen.specs.Accepting.{Test-goes-on, Goes-ahead, Taken-back};
+ghost use Rattle.least_seen.specs.Betters.{First-better};
+ghost use Rattle.branches.specs.Branches.{in-place, Same-arrays};
+ghost use Rattle.least_seen.specs.Accepting.{Test-goes-on, Goes-ahead};
 
-// Whether a branch that has followed the first t records sees one before record t, or leads to one that sees one later.
-// Where it does not, each number given is taken back.
-pub fn better(
+// Of a branch that has followed the first t records: the first of the first m before which it, or one that it leads to, sees another; m if there
+// is none. A record with a number of at most `enough` need not be the first. Each number given is taken back.
+pub fn first_better(
     table: &[u32; CELLS],
     twins: &[u8; Drawing::MOST_DEVICES],
     code: &[u8],
     m: usize,
+    enough: usize,
     n: usize,
     t: usize,
     numbers: &mut [u8; Drawing::MOST_DEVICES],
@@ -34,25 +34,26 @@ pub fn better(
     count: usize,
     given: usize,
     low: usize,
-) -> bool
+) -> usize
     requires { ⌜ Test-goes-on (now table) (now code) m n t (in-place (now numbers) (now used) (now path) count given low)
         × Twins-noted (now table) (now twins) ⌝ }
-    ensures { λ r. ⌜ Decides r (Better-below (now (code .entry)) t
-        (in-place (now (numbers .entry)) (now (used .entry)) (now (path .entry)) count given low))
-        × Taken-back r (now (numbers .entry)) (now (numbers .exit)) (now (used .entry)) (now (used .exit))
+    ensures { λ r. ⌜ First-better (now (code .entry)) m enough t
+        (in-place (now (numbers .entry)) (now (used .entry)) (now (path .entry)) count given low) r
+        × Same-arrays (now (numbers .entry)) (now (numbers .exit)) (now (used .entry)) (now (used .exit))
         (now (path .entry)) (now (path .exit)) ⌝ }
 {
     if t == m {
-        return false;
+        return m;
     }
     let i = code[Code::RECORD_BYTES * t];
     let j = code[Code::RECORD_BYTES * t + 1];
     if i < j {
-        return edge_better(
+        return first_better_ahead(
             table,
             twins,
             code,
             m,
+            enough,
             n,
             t,
             numbers,
@@ -65,12 +66,13 @@ pub fn better(
     }
     let q = place_of(path, count, j);
     match chord_order(table, numbers, path, count, low, q, wanted_label(code, t)) {
-        Order::Before => true,
-        Order::Equal => better(
+        Order::Before => t,
+        Order::Equal => first_better(
             table,
             twins,
             code,
             m,
+            enough,
             n,
             t + 1,
             numbers,
@@ -80,17 +82,18 @@ pub fn better(
             given,
             j as usize + 1,
         ),
-        Order::After => false,
+        Order::After => m,
     }
 }
 
 // The same where record t is forward: each device without a number that has the record's label is a way to follow, but of
-// exchangeable ones the first stands for all.
-fn edge_better(
+// exchangeable ones the first stands for all. What one way tells bounds the next ones.
+fn first_better_ahead(
     table: &[u32; CELLS],
     twins: &[u8; Drawing::MOST_DEVICES],
     code: &[u8],
     m: usize,
+    enough: usize,
     n: usize,
     t: usize,
     numbers: &mut [u8; Drawing::MOST_DEVICES],
@@ -99,32 +102,34 @@ fn edge_better(
     count: usize,
     given: usize,
     low: usize,
-) -> bool
+) -> usize
     requires { ⌜ Goes-ahead (now table) (now code) m n t (in-place (now numbers) (now used) (now path) count given low)
         × Twins-noted (now table) (now twins) ⌝ }
-    ensures { λ r. ⌜ Decides r (Better-below (now (code .entry)) t
-        (in-place (now (numbers .entry)) (now (used .entry)) (now (path .entry)) count given low))
-        × Taken-back r (now (numbers .entry)) (now (numbers .exit)) (now (used .entry)) (now (used .exit))
+    ensures { λ r. ⌜ First-better (now (code .entry)) m enough t
+        (in-place (now (numbers .entry)) (now (used .entry)) (now (path .entry)) count given low) r
+        × Same-arrays (now (numbers .entry)) (now (numbers .exit)) (now (used .entry)) (now (used .exit))
         (now (path .entry)) (now (path .exit)) ⌝ }
 {
     let wanted = wanted_label(code, t);
     let q = place_of(path, count, code[Code::RECORD_BYTES * t]);
     if some_before(table, numbers, used, path, count, low, n, q) {
-        return true;
+        return t;
     }
     let from = device_at(numbers, path, q);
+    let mut bound = m;
     for w in 0..n {
         let l = counted_label(table, twins, used, from, w);
         if is_lower(l, wanted) {
-            return true;
+            return t;
         }
         if l == wanted {
             let was = give_number(numbers, used, path, given, q, w);
-            if better(
+            bound = first_better(
                 table,
                 twins,
                 code,
-                m,
+                bound,
+                enough,
                 n,
                 t + 1,
                 numbers,
@@ -133,11 +138,12 @@ fn edge_better(
                 q + 2,
                 given + 1,
                 0,
-            ) {
-                return true;
-            }
+            );
             take_number(numbers, used, path, given, q, w, was);
+            if bound <= enough {
+                return bound;
+            }
         }
     }
-    false
+    bound
 }

@@ -145,30 +145,33 @@ module _ (bs : List ℕ) (ok : code-refusal bs ≡ 0) where
 
   -- NO START COMES BEFORE such a code
   module _ {first : ℕ} (number : Numbers-labels (rec-in (row 5 0 bs)) first) (after : Starts-after bs first (length bs / 5)) where
-    own-not-better : (Better-below bs 1 (first-state 0 1) → ⊥) → (e : Rec) → e ≡ at 0 → 0 < length bs / 5 → Begins-better bs (e .i) (e .j) (e .c) → ⊥
+    own-not-better : (Better-below bs (length bs / 5) 1 (first-state 0 1) → ⊥) → (e : Rec) → e ≡ at 0 → 0 < length bs / 5
+        → Begins-better bs (length bs / 5) (e .i) (e .j) (e .c) → ⊥
     own-not-better none e is h b =
         let s = seen-along bs ok 0 h e is in
-        own-start bs ok s is none
-        (start-asks bs ok s (same-start bs ok s (subst (λ (r : Rec). Numbers-labels r first) (sym is) number) number refl) b)
+        own-start bs ok s is (length bs / 5) none
+        (start-asks bs ok s (same-start bs ok s (subst (λ (r : Rec). Numbers-labels r first) (sym is) number) number refl)
+        (length bs / 5) h (omega arith) b)
 
-    other-not-better : (k : ℕ) → k < length bs / 5 → 1 ≤ k → (e : Rec) → e ≡ at k → Begins-better bs (e .i) (e .j) (e .c) → ⊥
+    other-not-better : (k : ℕ) → k < length bs / 5 → 1 ≤ k → (e : Rec) → e ≡ at k → Begins-better bs (length bs / 5) (e .i) (e .j) (e .c) → ⊥
     other-not-better k h one e is =
         let l = after k h .along one in
         higher-start bs ok (seen-along bs ok k h e is) (subst (λ (r : Rec). Numbers-labels r (l .number)) (sym is) (l .is)) number (l .after)
+        (length bs / 5) (omega arith) (omega arith)
 
-    reversed-not-better : (k : ℕ) → k < length bs / 5 → (e : Rec) → e ≡ at k → Begins-better bs (e .j) (e .i) (e .c) → ⊥
+    reversed-not-better : (k : ℕ) → k < length bs / 5 → (e : Rec) → e ≡ at k → Begins-better bs (length bs / 5) (e .j) (e .i) (e .c) → ⊥
     reversed-not-better k h e is =
-        subst (λ (r : Rec). Begins-better bs (r .j) (r .i) (r .c) → ⊥) (sym is)
+        subst (λ (r : Rec). Begins-better bs (length bs / 5) (r .j) (r .i) (r .c) → ⊥) (sym is)
         (let l = after k h .against in
-        higher-start bs ok (seen-against bs ok k h (at k) refl) (l .is) number (l .after))
+        higher-start bs ok (seen-against bs ok k h (at k) refl) (l .is) number (l .after) (length bs / 5) (omega arith) (omega arith))
 
-    pub no-start-before : (Some-parts bs (length bs / 5) → ⊥) → Well-grown (code-records bs) → Some-start (code-records bs) → ⊥
+    pub no-start-before : (Some-parts bs (length bs / 5) → ⊥) → Well-grown (code-records bs) → Some-start (code-records bs) (length bs / 5) → ⊥
     no-start-before none well =
-        tried-all bs (length bs / 5) (omega arith) (record { along = tried; against = reversed-not-better })
+        tried-all bs (length bs / 5) (length bs / 5) (omega arith) (record { along = tried; against = reversed-not-better })
       where
-        own : Better-below bs 1 (first-state 0 1) → ⊥
+        own : Better-below bs (length bs / 5) 1 (first-state 0 1) → ⊥
         own = own-start-settled bs ok (none-parts-untied none) well
 
-        tried : (k : ℕ) → k < length bs / 5 → (e : Rec) → e ≡ at k → Begins-better bs (e .i) (e .j) (e .c) → ⊥
+        tried : (k : ℕ) → k < length bs / 5 → (e : Rec) → e ≡ at k → Begins-better bs (length bs / 5) (e .i) (e .j) (e .c) → ⊥
         tried zero h e is = own-not-better own e is h
         tried (suc k) h e is = other-not-better (suc k) h (omega arith) e is

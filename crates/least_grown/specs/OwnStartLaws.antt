@@ -4,7 +4,8 @@ use mathlib.Core.Path.{_≡_, refl, sym, ap, _∙_, subst}
 use mathlib.Core.List.{List, [], _∷_, _++_}
 use Prim.Native.Nat.{ℕ, suc, _+_, _/_, _≤_, _<_}
 use native.Mathlib.Omega.{arith}
-use lib.ListN.{length, getD, drop, length-append}
+use lib.ListN.{length, getD, take, drop, length-append}
+use lib.Seq.{take-all}
 use Rattle.laws.specs.Rows.{row}
 use Rattle.laws.specs.Lists.{snoc, snoc-length, getD-default}
 use Rattle.codes.specs.Code.{Rec, fresh, rec-in, rows-refusal, decoded, kinds-before, code-records, code-refusal}
@@ -33,6 +34,9 @@ module _ (bs : List ℕ) (ok : code-refusal bs ≡ 0) where
   some : 0 < length bs / 5
   some = omega (arith, accepted-code bs ok .one)
 
+  every : take (length bs / 5) (code-records bs) ≡ code-records bs
+  every = take-all (length bs / 5) (code-records bs) (omega (arith, recs-in-length (length bs / 5) bs))
+
   whole : code-records bs ≡ first ∷ rest
   whole = records-on bs 0 some first refl
 
@@ -57,10 +61,11 @@ module _ (bs : List ℕ) (ok : code-refusal bs ≡ 0) where
     untied-there all = subst (Untied (decoded (code-records bs))) (sym place) (all (suc (length ps)) (omega arith) (omega (arith, counted)))
 
   -- THE OWN START
-  pub own-start-settled : All-untied bs → Well-grown (code-records bs) → Better-below bs 1 (first-state 0 1) → ⊥
+  pub own-start-settled : All-untied bs → Well-grown (code-records bs) → Better-below bs (length bs / 5) 1 (first-state 0 1) → ⊥
   own-start-settled all well b =
       own-start-not-better first rest (subst (λ (z : List Rec). rows-refusal fresh z ≡ 0) whole (code-good bs ok .accepted))
       (subst Well-grown whole well)
       (λ ps s e ms is. subst (λ (z : List Rec). Untied (decoded z) s) whole (untied-there ps s e ms is all))
       (subst (λ (z : List Rec). Better kinds-before (decoded z) (first ∷ []) rest (0 ∷ 1 ∷ [])) whole
-      (subst (λ (γ : List Rec). Better kinds-before (decoded (code-records bs)) γ rest (0 ∷ 1 ∷ [])) (records-through bs 0 some first refl) b))
+      (subst (λ (γ : List Rec). Better kinds-before (decoded (code-records bs)) γ rest (0 ∷ 1 ∷ [])) (records-through bs 0 some first refl)
+      (subst (λ (z : List Rec). Better kinds-before (decoded (code-records bs)) (take 1 (code-records bs)) (drop 1 z) (0 ∷ 1 ∷ [])) every b)))

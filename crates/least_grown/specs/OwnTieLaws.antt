@@ -3,7 +3,8 @@
 use mathlib.Core.Path.{_≡_, sym, ap, _∙_, subst}
 use mathlib.Core.Bool.{Bool}
 use mathlib.Core.List.{List}
-use Prim.Native.Nat.{ℕ, _≤_}
+use Prim.Native.Nat.{ℕ, _/_, _≤_}
+use lib.ListN.{length}
 use native.Mathlib.Omega.{arith}
 use Rattle.laws.specs.Decides.{Decides}
 use Rattle.laws.specs.Rows.{row}
@@ -36,13 +37,13 @@ tie-told {t} {bs} {n} {k} {wanted} {r} {b} is up label d =
     }
 
 -- a device other than its own that has a record's label makes it tie
-pub no-tie-untied : {t bs : List ℕ} {m n : ℕ} → Test-counts t bs m n → (Own-tie t bs m n → ⊥) → All-untied bs
-no-tie-untied {t} {bs} {m} {n} c none k one last up w above has kind-is =
+pub no-tie-untied : {t bs : List ℕ} {m n : ℕ} → Test-counts t bs m n → m ≡ length bs / 5 → (Own-tie t bs m n → ⊥) → All-untied bs
+no-tie-untied {t} {bs} {m} {n} c all none k one last up w above has kind-is =
     none
     (record {
       k = k;
       some = one;
-      low = omega (arith, c .records);
+      low = omega arith;
       tie = record {
         up = omega arith;
         other = record {
@@ -57,4 +58,4 @@ no-tie-untied {t} {bs} {m} {n} c none k one last up w above has kind-is =
 -- a code that has grown, with its table
 pub grown-counted : {t bs : List ℕ} {m n : ℕ} → Grown-code bs m n → Labels (decoded (code-records bs)) t → Test-counts t bs m n
 grown-counted g labels =
-    record { tabled = record { accepted = g .accepted; labels = labels }; records = g .records; within = g .within; most = g .most }
+    record { tabled = record { accepted = g .accepted; labels = labels }; records = omega (arith, g .records); within = g .within; most = g .most }

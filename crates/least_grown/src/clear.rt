@@ -106,7 +106,7 @@ fn some_parts(code: &[u8], m: usize) -> bool
 // Whether an accepted code of m records that has grown well is clearly least. Where it is not, it may be least all the same.
 pub fn clearly_least(code: &[u8], m: usize) -> bool
     requires { ⌜ (code-refusal (now code) ≡ 0) × (m ≡ length (now code) / 5) × Well-grown (code-records (now code)) ⌝ }
-    ensures { λ r. ⌜ (r ≡ true → Some-start (code-records (now (code .entry))) → ⊥) ⌝ }
+    ensures { λ r. ⌜ (r ≡ true → Some-start (code-records (now (code .entry))) m → ⊥) ⌝ }
 {
     if starts_after(code, m, labels_number(Record::at(code, 0))) {
         return !some_parts(code, m);

@@ -2,7 +2,7 @@
 // without its last record is known to be least, and that record to overlook none, so that the code's own numbering sees nothing.
 use crate::clear::clearly_least;
 use crate::ties::own_tie;
-use least_test::starts::some_start_better;
+use least_test::starts::first_of_starts;
 use records::code::Code;
 use records::drawing::Drawing;
 use tables::table::labels_of_code;
@@ -13,16 +13,16 @@ ghost use Rattle.least_seen.specs.Betters.{Some-start};
 ghost use Rattle.least_seen.specs.Accepting.{Accepted-front};
 ghost use Rattle.least_grown.specs.GrownCode.{Grown-code};
 
-// Whether some start comes before a code. No twins are noted: among the codes that are grown to be tested here, looking for them costs
-// more than it spares.
+// Whether some start comes before a code: how far the code agrees with the least one is not asked for, so that the first start that does is
+// enough. No twins are noted: among the codes that are grown to be tested here, looking for them costs more than it spares.
 fn start_before(code: &[u8], m: usize, n: usize) -> bool
     requires { ⌜ Grown-code (now code) m n ⌝ }
-    ensures { λ r. ⌜ Decides r (Some-start (code-records (now (code .entry)))) ⌝ }
+    ensures { λ r. ⌜ Decides r (Some-start (code-records (now (code .entry))) m) ⌝ }
 {
     let table = labels_of_code(code);
     let own = own_tie(&table, code, m, n);
     let none = [Drawing::MOST_DEVICES as u8; Drawing::MOST_DEVICES];
-    some_start_better(&table, &none, code, m, n, own)
+    first_of_starts(&table, &none, code, m, m - 1, n, own) < m
 }
 
 // Whether the code of m records at the front of some bytes is the least.

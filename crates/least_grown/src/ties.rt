@@ -36,7 +36,7 @@ fn tie_at(table: &[u32; CELLS], code: &[u8], m: usize, n: usize, k: usize) -> bo
 
 // Whether a record but the first and the last does; nothing follows the last.
 pub fn own_tie(table: &[u32; CELLS], code: &[u8], m: usize, n: usize) -> bool
-    requires { ⌜ Test-counts (now table) (now code) m n ⌝ }
+    requires { ⌜ Test-counts (now table) (now code) m n × (1 ≤ m) ⌝ }
     ensures { λ r. ⌜ Decides r (Own-tie (now (table .entry)) (now (code .entry)) m n) ⌝ }
 {
     for k in 1..m - 1 {

@@ -1,11 +1,10 @@
 -- A branch that follows an accepted code, against the code's next record as the program reads it: what each test tells, and
 -- the branches that are followed. Rests on AcceptedLaws. Assumes nothing.
 use mathlib.Core.Path.{_≡_, refl, sym, ap, _∙_, subst}
-use mathlib.Core.Bool.{Bool, true, false, true≢false}
+use mathlib.Core.Bool.{Bool, true, false}
 use mathlib.Core.List.{List, _∷_, _++_}
 use mathlib.Core.Logic.{inl, inr}
 use Prim.Native.Nat.{ℕ, _+_, _*_, _/_, _≤_, _<_}
-use native.Mathlib.Numerals.{add-one}
 use native.Mathlib.Omega.{arith}
 use native.Mathlib.Decide.{decLt}
 use lib.ListN.{length, getD, take, drop}
@@ -35,9 +34,9 @@ use Rattle.codes.specs.LabelLaws.{label-cable}
 use Rattle.codes.specs.TwinBranches.{twin-label, twin-edge-better}
 use Rattle.code_records.specs.declared.«record».Order.the-variants.{Before, Equal, After}
 use Rattle.code_records.specs.RecordLaws.{record-read}
-use Rattle.tables.specs.CodeRows.{code-simple, record-accepted, records-through, records-on}
-use Rattle.branches.specs.Branches.{chorded, device-placed, Places, Same-arrays}
-use Rattle.branches.specs.InPlaceLaws.{chorded-is, bounds-places, all-same}
+use Rattle.tables.specs.CodeRows.{code-simple, records-through, front-records-on, front-among, front-good}
+use Rattle.branches.specs.Branches.{chorded, device-placed, Places}
+use Rattle.branches.specs.InPlaceLaws.{chorded-is, bounds-places}
 use Rattle.least_seen.specs.Betters.{Better-below}
 use Rattle.least_seen.specs.BetterLaws.{Sees}
 use Rattle.least_seen.specs.TestFollowLaws.{sees, follows-bounds}
@@ -51,7 +50,6 @@ use Rattle.least_seen.specs.Accepting.{
   Before-edge,
   wanted-label,
   Test-goes-on,
-  Taken-back,
 }
 use Rattle.least_seen.specs.AcceptedLaws.{
   one-way,
@@ -73,24 +71,6 @@ use Rattle.least_seen.specs.AcceptedLaws.{
   front-none,
 }
 
--- WHAT WAS GIVEN, taken back
-pub taken-same :
-    {r : Bool} {numbers₀ numbers path₀ path : List ℕ} {used₀ used : List Bool} → Same-arrays numbers₀ numbers used₀ used path₀ path
-    → Taken-back r numbers₀ numbers used₀ used path₀ path
-taken-same s = record { numbers-same = λ e. s .numbers-same; used-same = λ e. s .used-same; path-same = λ e. s .path-same }
-
-pub kept :
-    {r : Bool} {numbers₀ numbers path₀ path : List ℕ} {used₀ used : List Bool} → Taken-back r numbers₀ numbers used₀ used path₀ path → r ≡ false
-    → Same-arrays numbers₀ numbers used₀ used path₀ path
-kept s e = record { numbers-same = s .numbers-same e; used-same = s .used-same e; path-same = s .path-same e }
-
-pub untouched : {r : Bool} {numbers path : List ℕ} {used : List Bool} → Taken-back r numbers numbers used used path path
-untouched = taken-same all-same
-
-pub not-taken : {numbers₀ numbers path₀ path : List ℕ} {used₀ used : List Bool} → Taken-back true numbers₀ numbers used₀ used path₀ path
-not-taken =
-    record { numbers-same = λ e. absurd (true≢false e); used-same = λ e. absurd (true≢false e); path-same = λ e. absurd (true≢false e) }
-
 -- a record's label is none of a missing cable
 pub wanted-label-some : (bs : List ℕ) (k : ℕ) {l : ℕ} → l ≡ wanted-label bs k → 0 < l
 wanted-label-some bs k e = omega arith
@@ -101,9 +81,9 @@ counted-free (inl f) h = f
 counted-free (inr x) h = absurd (omega (arith, x .0))
 
 -- of the device w: no lower label, and no way to it that leads to something better
-pub record Tried-way (t bs : List ℕ) (k : ℕ) (b : State) (q w : ℕ) : Type 0 where
+pub record Tried-way (t bs : List ℕ) (m k : ℕ) (b : State) (q w : ℕ) : Type 0 where
   pub not-lower : getD (b .used) w true ≡ false → Lower (edge-label t b q w) (wanted-label bs k) → ⊥
-  pub no-way : getD (b .used) w true ≡ false → edge-label t b q w ≡ wanted-label bs k → Better-below bs (k + 1) (with-edge b q w) → ⊥
+  pub no-way : getD (b .used) w true ≡ false → edge-label t b q w ≡ wanted-label bs k → Better-below bs m (k + 1) (with-edge b q w) → ⊥
 
 module _ {t bs : List ℕ} {m n k : ℕ} {b : State} (G : Test-goes-on t bs m n k b) where
   bounds : Bounds b
@@ -153,23 +133,25 @@ module _ {t bs : List ℕ} {m n k : ℕ} {b : State} (G : Test-goes-on t bs m n 
     j-is = ap (λ (z : Rec). z .j) (record-read bs k)
 
     ss : List Rec
-    ss = drop (k + 1) (code-records bs)
+    ss = drop (k + 1) (take m (code-records bs))
 
     ok : rows-refusal fresh (take k (code-records bs) ++ e ∷ ss) ≡ 0
     unfolding e ss
-    ok = rw add-one (record-accepted bs (G .counted .tabled .accepted) k below (rec-in (row 5 k bs)) refl)
+    ok =
+        rw (← front-among bs k below (rec-in (row 5 k bs)) refl m more (G .counted .records))
+        (front-good bs (G .counted .tabled .accepted) m)
 
-    here : Better kinds-before (decoded (code-records bs)) (take k (code-records bs)) (e ∷ ss) (numbering b) → Better-below bs k b
+    here : Better kinds-before (decoded (code-records bs)) (take k (code-records bs)) (e ∷ ss) (numbering b) → Better-below bs m k b
     unfolding e ss
-    here x = rw (records-on bs k below (rec-in (row 5 k bs)) refl) x
+    here x = rw (front-records-on bs k below (rec-in (row 5 k bs)) refl m more (G .counted .records)) x
 
     sees-earlier :
-        Sees-before kinds-before (decoded (code-records bs)) (read-rows fresh (take k (code-records bs))) (numbering b) e → Better-below bs k b
+        Sees-before kinds-before (decoded (code-records bs)) (read-rows fresh (take k (code-records bs))) (numbering b) e → Better-below bs m k b
     sees-earlier x = here (seen-better v e ss ok x)
 
-    on : Better-below bs k b → Better kinds-before (decoded (code-records bs)) (take k (code-records bs)) (e ∷ ss) (numbering b)
+    on : Better-below bs m k b → Better kinds-before (decoded (code-records bs)) (take k (code-records bs)) (e ∷ ss) (numbering b)
     unfolding e ss
-    on x = rw (records-on bs k below (rec-in (row 5 k bs)) refl) at x
+    on x = rw (front-records-on bs k below (rec-in (row 5 k bs)) refl m more (G .counted .records)) at x
 
     through : take (k + 1) (code-records bs) ≡ snoc (take k (code-records bs)) e
     unfolding e
@@ -179,19 +161,21 @@ module _ {t bs : List ℕ} {m n k : ℕ} {b : State} (G : Test-goes-on t bs m n 
     abbrev Better-next : State → Type 0
     Better-next z = Better kinds-before (decoded (code-records bs)) (snoc (take k (code-records bs)) e) ss (numbering z)
 
-    next-to : (z : State) → Better-below bs (k + 1) z → Better-next z
+    next-to : (z : State) → Better-below bs m (k + 1) z → Better-next z
     unfolding ss
-    next-to z x = subst (λ (γ : List Rec). Better kinds-before (decoded (code-records bs)) γ (drop (k + 1) (code-records bs)) (numbering z)) through x
+    next-to z x =
+        subst (λ (γ : List Rec). Better kinds-before (decoded (code-records bs)) γ (drop (k + 1) (take m (code-records bs))) (numbering z)) through x
 
-    next-from : (z : State) → Better-next z → Better-below bs (k + 1) z
+    next-from : (z : State) → Better-next z → Better-below bs m (k + 1) z
     unfolding ss
-    next-from z x = subst (λ (γ : List Rec). Better kinds-before (decoded (code-records bs)) γ (drop (k + 1) (code-records bs))
+    next-from z x = subst (λ (γ : List Rec). Better kinds-before (decoded (code-records bs)) γ (drop (k + 1) (take m (code-records bs)))
         (numbering z)) (sym through) x
 
     goes : (z : State) → Represents (decoded (code-records bs)) (snoc (take k (code-records bs)) e) z → Test-goes-on t bs m n (k + 1) z
     goes z r =
         record {
           counted = G .counted;
+          low = omega arith;
           follows =
               record {
                 tabled = G .counted .tabled;
@@ -223,12 +207,12 @@ module _ {t bs : List ℕ} {m n k : ℕ} {b : State} (G : Test-goes-on t bs m n 
             go (no s) = omega arith
 
         module _ (byte : rec-in (row 5 k bs) .kj < 256) where
-          pub told-before : Chord-told t (b .numbers) (b .path) (b .count) (b .low) q (wanted-label bs k) Before → Better-below bs k b
+          pub told-before : Chord-told t (b .numbers) (b .path) (b .count) (b .low) q (wanted-label bs k) Before → Better-below bs m k b
           unfolding e
           told-before (inl c) = sees-earlier (back-lower v e ss ok falls q low at-j (c .q) (c .below) (c .high) (c .some))
           told-before (inr l) = sees-earlier (back-label v e ss ok falls q low at-j byte (l .0) (l .1))
 
-          pub told-after : Chord-told t (b .numbers) (b .path) (b .count) (b .low) q (wanted-label bs k) After → Better-below bs k b → ⊥
+          pub told-after : Chord-told t (b .numbers) (b .path) (b .count) (b .low) q (wanted-label bs k) After → Better-below bs m k b → ⊥
           unfolding e
           told-after c x = back-none v e ss ok falls q low at-j byte (none-lower (c .0)) (c .1) (c .2) (on x)
 
@@ -240,12 +224,12 @@ module _ {t bs : List ℕ} {m n k : ℕ} {b : State} (G : Test-goes-on t bs m n 
                 (subst (Represents (decoded (code-records bs)) (snoc (take k (code-records bs)) e)) (chorded-is b q _ is)
                 (back-represents v e ss ok falls q low at-j byte (none-lower (c .0)) (c .1)))
 
-            pub chord-tells : Better-below bs (k + 1) (chorded b (getD bs (5 * k + 1) 0)) → Better-below bs k b
+            pub chord-tells : Better-below bs m (k + 1) (chorded b (getD bs (5 * k + 1) 0)) → Better-below bs m k b
             unfolding e
             chord-tells x =
                 here (back-on v e ss ok falls q low at-j byte (none-lower (c .0)) (c .1) (next-to (chorded b (getD bs (5 * k + 1) 0)) x))
 
-            pub chord-ends : (Better-below bs (k + 1) (chorded b (getD bs (5 * k + 1) 0)) → ⊥) → Better-below bs k b → ⊥
+            pub chord-ends : (Better-below bs m (k + 1) (chorded b (getD bs (5 * k + 1) 0)) → ⊥) → Better-below bs m k b → ⊥
             unfolding e
             chord-ends none x =
                 back-only v e ss ok falls q low at-j byte (none-lower (c .0)) (c .1)
@@ -266,7 +250,7 @@ module _ {t bs : List ℕ} {m n k : ℕ} {b : State} (G : Test-goes-on t bs m n 
         free : (w : ℕ) → w < n → getD (b .used) w true ≡ false → Free b w
         free w h u = record { below = omega (arith, goes-marked .low); unused = u }
 
-        pub edge-before : Before-edge t (b .numbers) (b .used) (b .path) (b .count) (b .low) n q → Better-below bs k b
+        pub edge-before : Before-edge t (b .numbers) (b .used) (b .path) (b .count) (b .low) n q → Better-below bs m k b
         edge-before (inl c) =
             sees-earlier (front-chord v e ss ok rises (c .q) (record { inner = omega (arith, c .below); high = c .high }) (c .some))
         edge-before (inr c) =
@@ -275,14 +259,14 @@ module _ {t bs : List ℕ} {m n k : ℕ} {b : State} (G : Test-goes-on t bs m n 
 
         module _ (byte : rec-in (row 5 k bs) .kj < 256) where
           module _ (w : ℕ) (h : w < n) {l : ℕ} (f : Free-label t (b .used) (device-placed (b .numbers) (b .path) q) w l) where
-            pub edge-lower : Lower l (wanted-label bs k) → Better-below bs k b
+            pub edge-lower : Lower l (wanted-label bs k) → Better-below bs m k b
             unfolding e
             edge-lower x =
                 let u = f .taken (x .0) in
                 let s = f .free u in
                 sees-earlier (front-label v e ss ok rises q low at-i byte w (free w h u) (rw s at (x .0)) (rw s at (x .1)))
 
-            pub not-lower-way : (Lower l (wanted-label bs k) → ⊥) → (l ≡ wanted-label bs k → ⊥) → Tried-way t bs k b q w
+            pub not-lower-way : (Lower l (wanted-label bs k) → ⊥) → (l ≡ wanted-label bs k → ⊥) → Tried-way t bs m k b q w
             not-lower-way a c =
                 record {
                   not-lower = λ u x. a (rw (f .free u) x);
@@ -304,17 +288,17 @@ module _ {t bs : List ℕ} {m n k : ℕ} {b : State} (G : Test-goes-on t bs m n 
               unfolding e
               edge-goes = goes (with-edge b q w) (front-represents v e ss ok rises q low at-i byte w (free w h unused) label-own)
 
-              pub edge-tells : Better-below bs (k + 1) (with-edge b q w) → Better-below bs k b
+              pub edge-tells : Better-below bs m (k + 1) (with-edge b q w) → Better-below bs m k b
               unfolding e
               edge-tells x =
                   here (front-on v e ss ok rises q low at-i byte w (free w h unused) label-own (next-to (with-edge b q w) x))
 
-              pub tried-way : (Better-below bs (k + 1) (with-edge b q w) → ⊥) → Tried-way t bs k b q w
+              pub tried-way : (Better-below bs m (k + 1) (with-edge b q w) → ⊥) → Tried-way t bs m k b q w
               tried-way none =
                   record { not-lower = λ u x. omega (arith, x .1, label-own); no-way = λ u x. none }
 
           -- A TWIN below w that was tried stands for it
-          pub twin-way : (w : ℕ) → w < n → Free-twin t (b .used) w → ((u : ℕ) → u < w → Tried-way t bs k b q u) → Tried-way t bs k b q w
+          pub twin-way : (w : ℕ) → w < n → Free-twin t (b .used) w → ((u : ℕ) → u < w → Tried-way t bs m k b q u) → Tried-way t bs m k b q w
           unfolding e
           twin-way w h x tried =
               record {
@@ -322,7 +306,7 @@ module _ {t bs : List ℕ} {m n k : ℕ} {b : State} (G : Test-goes-on t bs m n 
                 no-way = λ f own z. p .no-way (x .free) (same f ∙ own) (stands f own z);
               }
             where
-              p : Tried-way t bs k b q (x .u)
+              p : Tried-way t bs m k b q (x .u)
               p = tried (x .u) (x .below)
 
               d : Drawing
@@ -335,17 +319,17 @@ module _ {t bs : List ℕ} {m n k : ℕ} {b : State} (G : Test-goes-on t bs m n 
               same f = twin-label d simple (v .ten) t (v .labels) (take k (code-records bs)) b (v .branch) (free w h f) x q low
 
               stands :
-                  getD (b .used) w true ≡ false → edge-label t b q w ≡ wanted-label bs k → Better-below bs (k + 1) (with-edge b q w)
-                  → Better-below bs (k + 1) (with-edge b q (x .u))
+                  getD (b .used) w true ≡ false → edge-label t b q w ≡ wanted-label bs k → Better-below bs m (k + 1) (with-edge b q w)
+                  → Better-below bs m (k + 1) (with-edge b q (x .u))
               stands f own z =
                   let room = front-room v e ss ok rises q low at-i byte w (free w h f) own in
                   twin-edge-better d simple (v .ten) t (v .labels) (take k (code-records bs)) b (v .branch) (free w h f) x kinds-before
-                  (take (k + 1) (code-records bs)) q room (drop (k + 1) (code-records bs)) z
+                  (take (k + 1) (code-records bs)) q room (drop (k + 1) (take m (code-records bs))) z
 
           -- ALL DEVICES TRIED
           pub edge-way-none :
               (Before-edge t (b .numbers) (b .used) (b .path) (b .count) (b .low) n q → ⊥)
-              → ((w : ℕ) → w < n → Tried-way t bs k b q w) → Better-below bs k b → ⊥
+              → ((w : ℕ) → w < n → Tried-way t bs m k b q w) → Better-below bs m k b → ⊥
           unfolding e
           edge-way-none before tried x = front-none v e ss ok rises q low at-i byte no-chord no-deeper no-lower no-way (on x)
             where

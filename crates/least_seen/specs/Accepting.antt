@@ -87,16 +87,17 @@ Before-edge t numbers used path count low n q =
 abbrev pub wanted-label : (bs : List ℕ) (k : ℕ) → ℕ
 wanted-label bs k = label-of (rec-in (row 5 k bs) .c) (rec-in (row 5 k bs) .kj)
 
--- A CODE of m records and at most n devices with its table
+-- A CODE of at least m records and at most n devices with its table
 pub record Test-counts (t bs : List ℕ) (m n : ℕ) : Type 0 where
   pub tabled : Tabled t bs
-  pub records : m ≡ length bs / 5
+  pub records : m ≤ length bs / 5
   pub within : devices (decoded (code-records bs)) ≤ n
   pub most : n ≤ 10
 
--- a branch that has followed its first k records
+-- a branch that has followed its first k records, where the first m are looked at
 pub record Test-goes-on (t bs : List ℕ) (m n k : ℕ) (b : State) : Type 0 where
   pub counted : Test-counts t bs m n
+  pub low : k ≤ m
   pub follows : Follows t bs k b
 
 -- where the record that comes next is forward
@@ -104,9 +105,3 @@ pub record Goes-ahead (t bs : List ℕ) (m n k : ℕ) (b : State) : Type 0 where
   pub goes : Test-goes-on t bs m n k b
   pub more : k < m
   pub ahead : getD bs (5 * k) 0 < getD bs (5 * k + 1) 0
-
--- what was given is taken back where nothing better was seen
-pub record Taken-back (r : Bool) (numbers₀ numbers : List ℕ) (used₀ used : List Bool) (path₀ path : List ℕ) : Type 0 where
-  pub numbers-same : r ≡ false → numbers ≡ numbers₀
-  pub used-same : r ≡ false → used ≡ used₀
-  pub path-same : r ≡ false → path ≡ path₀

@@ -6,6 +6,7 @@ use mathlib.Core.Logic.{_⊎_}
 use Prim.Native.Nat.{ℕ, _/_, _≤_, _<_}
 use lib.ListN.{length, take, drop}
 use Rattle.laws.specs.Rows.{row}
+use Rattle.laws.specs.FirstSeen.{First-place}
 use Rattle.graphs.specs.Drawing.{Drawing, kind}
 use Rattle.graphs.specs.Cables.{Has}
 use Rattle.codes.specs.Code.{Rec, rec-in, kinds-before, rec-before, decoded, code-refusal}
@@ -37,9 +38,13 @@ pub record Follows (t bs : List ℕ) (k : ℕ) (b : State) : Type 0 where
   pub within : k ≤ length bs / 5
   pub branch : Represents (decoded (code-records bs)) (take k (code-records bs)) b
 
--- something before the code's next record is seen below it
-abbrev pub Better-below : List ℕ → (k : ℕ) → State → Type 0
-Better-below bs k b = Better kinds-before (decoded (code-records bs)) (take k (code-records bs)) (drop k (code-records bs)) (numbering b)
+-- something before one of the code's next records is seen below it, of the first m records of the code
+abbrev pub Better-below : List ℕ → (m k : ℕ) → State → Type 0
+Better-below bs m k b = Better kinds-before (decoded (code-records bs)) (take k (code-records bs)) (drop k (take m (code-records bs))) (numbering b)
+
+-- r is the first of these records before which something is seen, or m
+abbrev pub First-better : List ℕ → (m enough k : ℕ) → State → (r : ℕ) → Type 0
+First-better bs m enough k b r = First-place (λ j. Better-below bs j k b) m enough r
 
 -- STARTS: a cable seen from one end
 pub record Seen-cable (d : Drawing) (e : Rec) : Type 0 where
@@ -57,19 +62,26 @@ Start-better d [] u w k = ⊥
 Start-better d (r ∷ rs) u w k =
     (rec-before (first-record d u w k) r ≡ true) ⊎ ((first-record d u w k ≡ r) × Better kinds-before d (r ∷ []) rs (u ∷ w ∷ []))
 
--- of the code bs itself
-abbrev pub Begins-better : (bs : List ℕ) → (u w k : ℕ) → Type 0
-Begins-better bs u w k = Start-better (decoded (code-records bs)) (code-records bs) u w k
+-- of the first m records of the code bs itself
+abbrev pub Begins-better : (bs : List ℕ) → (m u w k : ℕ) → Type 0
+Begins-better bs m u w k = Start-better (decoded (code-records bs)) (take m (code-records bs)) u w k
 
 -- some cable, seen from one end, does
-pub record Some-start (rs : List Rec) : Type 0 where
+pub record Some-start (rs : List Rec) (m : ℕ) : Type 0 where
   pub u : ℕ
   pub w : ℕ
   pub k : ℕ
   pub has : Has u w k (decoded rs .cables)
-  pub better : Start-better (decoded rs) rs u w k
+  pub better : Start-better (decoded rs) (take m rs) u w k
 
--- of the first n records none does, seen from either end
-pub record Tried (bs : List ℕ) (n : ℕ) : Type 0 where
-  pub along : (m : ℕ) → m < n → (e : Rec) → e ≡ rec-in (row 5 m bs) → Begins-better bs (e .i) (e .j) (e .c) → ⊥
-  pub against : (m : ℕ) → m < n → (e : Rec) → e ≡ rec-in (row 5 m bs) → Begins-better bs (e .j) (e .i) (e .c) → ⊥
+-- of the cables of the first n records none does, seen from either end
+pub record Tried (bs : List ℕ) (m n : ℕ) : Type 0 where
+  pub along : (j : ℕ) → j < n → (e : Rec) → e ≡ rec-in (row 5 j bs) → Begins-better bs m (e .i) (e .j) (e .c) → ⊥
+  pub against : (j : ℕ) → j < n → (e : Rec) → e ≡ rec-in (row 5 j bs) → Begins-better bs m (e .j) (e .i) (e .c) → ⊥
+
+-- the first record before which one start has another, and that of all starts
+abbrev pub First-start : (bs : List ℕ) → (m enough u w k r : ℕ) → Type 0
+First-start bs m enough u w k r = First-place (λ j. Begins-better bs j u w k) m enough r
+
+abbrev pub First-of-starts : (rs : List Rec) → (m enough r : ℕ) → Type 0
+First-of-starts rs m enough r = First-place (Some-start rs) m enough r

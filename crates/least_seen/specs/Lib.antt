@@ -8,3 +8,4 @@ pub mod TestFollowLaws
 pub mod AcceptedLaws
 pub mod AcceptedSteps
 pub mod MeetingLaws
+pub mod FirstBetterLaws

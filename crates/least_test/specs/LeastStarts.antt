@@ -1,30 +1,30 @@
--- The starts of a search: every cable of a code, seen from each end, against the code's first record; and that a code is least
--- exactly if no start comes before it. Rests on Better, LeastCode and FollowLaws. Assumes nothing.
+-- The starts of a search: every cable of a code, seen from each end, against the code's first record; what they tell of its first m records, and
+-- that these are greedy exactly if no start comes before them. Rests on Better and TestFollowLaws. Assumes nothing.
 use mathlib.Core.Path.{_≡_, refl, sym, ap, _∙_, subst}
 use mathlib.Core.Bool.{true}
-use mathlib.Core.List.{List, [], _∷_}
+use mathlib.Core.List.{List, [], _∷_, _++_}
 use mathlib.Core.Logic.{inl, inr}
 use Prim.Native.Nat.{ℕ, suc, _+_, _/_, _≤_, _<_}
 use native.Mathlib.Omega.{arith}
 use native.Mathlib.Decide.{decLt}
-use lib.ListN.{length, getD, take, drop}
+use lib.ListN.{length, getD, take, drop, take-append-drop}
 use Rattle.laws.specs.Tests.{false-unless}
+use Rattle.laws.specs.Lists.{drop-take-more}
 use Rattle.laws.specs.Rows.{row}
 use Rattle.graphs.specs.Drawing.{Cable, Drawing, devices, kind}
 use Rattle.graphs.specs.Cables.{Joins, along, against, Has, has-flip, has-at}
 use Rattle.graphs.specs.Graph.{Simple, Pattern}
-use Rattle.codes.specs.Code.{Rec, fresh, rows-refusal, rec-in, cable-of, kinds-before, rec-before, decoded, rows-good, code-refusal, Least}
+use Rattle.codes.specs.Code.{Rec, fresh, rows-refusal, rec-in, cable-of, kinds-before, rec-before, decoded, code-refusal}
 use Rattle.codes.specs.CodeOrder.{rec-eq, rec-before-strict, kinds-order}
-use Rattle.codes.specs.ReadRows.{begun-from-test, rows-cons, good-from-test}
+use Rattle.codes.specs.ReadRows.{begun-from-test, rows-cons, rows-divided, good-from-test}
 use Rattle.codes.specs.Greedy.{Greedy}
 use Rattle.codes.specs.FirstRecord.{first-record}
-use Rattle.codes.specs.Better.{Better, start-not-greedy, branch-not-greedy, start-greedy}
-use Rattle.codes.specs.LeastCode.{least-greedy, greedy-least-itself}
+use Rattle.codes.specs.Better.{Better, better-more, start-not-greedy, branch-not-greedy, start-greedy}
 use Rattle.codes.specs.CodeBytes.{accepted-code}
 use Rattle.codes.specs.BranchState.{Labels, first-state, Represents}
 use Rattle.codes.specs.BranchSteps.{represents-first}
 use Rattle.codes.specs.Code.{code-records}
-use Rattle.tables.specs.CodeRows.{records-through, records-on, code-ten, code-simple}
+use Rattle.tables.specs.CodeRows.{records-through, records-on, front-records-on, code-ten, code-simple}
 use Rattle.tables.specs.CodeCables.{code-cables, record-cable, record-i-kind, record-j-kind}
 use Rattle.least_test.specs.StartNumbers.{Numbers-labels, lower-number, same-number}
 use Rattle.least_seen.specs.Betters.{
@@ -95,33 +95,35 @@ module _ (d : Drawing) (r : Rec) (ss : List Rec) (u w k : ℕ) where
     first-from (inl q) = absurd (rec-before-strict kinds-before kinds-order .irrefl r (rw is at q))
     first-from (inr m) = m .1
 
--- of the code itself
+-- what comes before some records comes before them whatever follows
+start-more : (d : Drawing) (ss ms : List Rec) (u w k : ℕ) → Start-better d ss u w k → Start-better d (ss ++ ms) u w k
+unfolding Start-better
+start-more d [] ms u w k x = absurd x
+start-more d (r ∷ ss) ms u w k (inl p) = inl p
+start-more d (r ∷ ss) ms u w k (inr p) = inr (p .0, better-more kinds-before d (r ∷ []) ss ms (u ∷ w ∷ []) (p .1))
+
+start-of-more : (d : Drawing) (rs : List Rec) (j m u w k : ℕ) → j ≤ m → Start-better d (take j rs) u w k → Start-better d (take m rs) u w k
+start-of-more d rs j m u w k h x =
+    let r = drop-take-more 0 j m rs h in
+    subst (λ (ss : List Rec). Start-better d ss u w k) (sym (r .1)) (start-more d (take j rs) (r .0) u w k x)
+
+-- so of more records as many starts do or more
+pub begins-of-more : (bs : List ℕ) (j m u w k : ℕ) → j ≤ m → Begins-better bs j u w k → Begins-better bs m u w k
+begins-of-more bs = start-of-more (decoded (code-records bs)) (code-records bs)
+
+pub some-of-more : (rs : List Rec) (j m : ℕ) → j ≤ m → Some-start rs j → Some-start rs m
+some-of-more rs j m h s =
+    record { u = s .u; w = s .w; k = s .k; has = s .has; better = start-of-more (decoded rs) rs j m (s .u) (s .w) (s .k) h (s .better) }
+
+-- before no record nothing comes
+pub none-of-none : (rs : List Rec) → Some-start rs 0 → ⊥
+unfolding Start-better
+none-of-none rs s = s .better
+
+-- of the first m records of the code itself
 module _ (bs : List ℕ) (ok : code-refusal bs ≡ 0) {e : Rec} (s : Seen-cable (decoded (code-records bs)) e) where
   some : 0 < length bs / 5
   some = omega (arith, accepted-code bs ok .one)
-
-  -- the code's first record, and the rest
-  to : Start-better (decoded (code-records bs)) (rec-in (row 5 0 bs) ∷ drop 1 (code-records bs)) (e .i) (e .j) (e .c)
-      → Begins-better bs (e .i) (e .j) (e .c)
-  to m =
-      subst (λ (rs : List Rec). Start-better (decoded (code-records bs)) rs (e .i) (e .j) (e .c))
-      (sym (records-on bs 0 some (rec-in (row 5 0 bs)) refl)) m
-
-  from : Begins-better bs (e .i) (e .j) (e .c)
-      → Start-better (decoded (code-records bs)) (rec-in (row 5 0 bs) ∷ drop 1 (code-records bs)) (e .i) (e .j) (e .c)
-  from m =
-      subst (λ (rs : List Rec). Start-better (decoded (code-records bs)) rs (e .i) (e .j) (e .c))
-      (records-on bs 0 some (rec-in (row 5 0 bs)) refl) m
-
-  pub start-before : rec-before (begins e) (rec-in (row 5 0 bs)) ≡ true → Begins-better bs (e .i) (e .j) (e .c)
-  start-before o =
-      to (first-before (decoded (code-records bs)) _ _ (e .i) (e .j) (e .c)
-      (rw (← begins-is (decoded (code-records bs)) e s) o))
-
-  pub start-after : rec-before (rec-in (row 5 0 bs)) (begins e) ≡ true → Begins-better bs (e .i) (e .j) (e .c) → ⊥
-  start-after o m =
-      first-after (decoded (code-records bs)) _ _ (e .i) (e .j) (e .c)
-      (rw (← begins-is (decoded (code-records bs)) e s) o) (from m)
 
   -- the first record goes from 0 to 1
   pub first-ends : (rec-in (row 5 0 bs) .i ≡ 0) × (rec-in (row 5 0 bs) .j ≡ 1)
@@ -137,6 +139,29 @@ module _ (bs : List ℕ) (ok : code-refusal bs ≡ 0) {e : Rec} (s : Seen-cable 
       let ends = code-simple bs ok .ends in
       let ten = code-ten bs ok in
       (omega (arith, ends (e .i) (e .j) (e .c) (s .has)), omega (arith, ends (e .j) (e .i) (e .c) (has-flip (s .has))))
+
+  module _ (m : ℕ) (more : 0 < m) (within : m ≤ length bs / 5) where
+    -- the first of them, and the rest
+    on : take m (code-records bs) ≡ rec-in (row 5 0 bs) ∷ drop 1 (take m (code-records bs))
+    on = front-records-on bs 0 some (rec-in (row 5 0 bs)) refl m more within
+
+    to : Start-better (decoded (code-records bs)) (rec-in (row 5 0 bs) ∷ drop 1 (take m (code-records bs))) (e .i) (e .j) (e .c)
+        → Begins-better bs m (e .i) (e .j) (e .c)
+    to x = subst (λ (rs : List Rec). Start-better (decoded (code-records bs)) rs (e .i) (e .j) (e .c)) (sym on) x
+
+    from : Begins-better bs m (e .i) (e .j) (e .c)
+        → Start-better (decoded (code-records bs)) (rec-in (row 5 0 bs) ∷ drop 1 (take m (code-records bs))) (e .i) (e .j) (e .c)
+    from x = subst (λ (rs : List Rec). Start-better (decoded (code-records bs)) rs (e .i) (e .j) (e .c)) on x
+
+    pub start-before : rec-before (begins e) (rec-in (row 5 0 bs)) ≡ true → Begins-better bs m (e .i) (e .j) (e .c)
+    start-before o =
+        to (first-before (decoded (code-records bs)) _ _ (e .i) (e .j) (e .c)
+        (rw (← begins-is (decoded (code-records bs)) e s) o))
+
+    pub start-after : rec-before (rec-in (row 5 0 bs)) (begins e) ≡ true → Begins-better bs m (e .i) (e .j) (e .c) → ⊥
+    start-after o x =
+        first-after (decoded (code-records bs)) _ _ (e .i) (e .j) (e .c)
+        (rw (← begins-is (decoded (code-records bs)) e s) o) (from x)
 
   module _ (o : begins e ≡ rec-in (row 5 0 bs)) where
     first-is : first-record (decoded (code-records bs)) (e .i) (e .j) (e .c) ≡ rec-in (row 5 0 bs)
@@ -156,15 +181,17 @@ module _ (bs : List ℕ) (ok : code-refusal bs ≡ 0) {e : Rec} (s : Seen-cable 
               (represents-first _ (code-simple bs ok) (code-ten bs ok) (e .i) (e .j) (e .c) (s .has));
         }
 
-    pub start-tells : Better-below bs 1 (first-state (e .i) (e .j)) → Begins-better bs (e .i) (e .j) (e .c)
-    start-tells m =
-        to (first-on (decoded (code-records bs)) _ _ (e .i) (e .j) (e .c) first-is
-        (subst (λ (γ : List Rec). Better kinds-before (decoded (code-records bs)) γ (drop 1 (code-records bs)) (e .i ∷ e .j ∷ [])) through m))
+    module _ (m : ℕ) (more : 0 < m) (within : m ≤ length bs / 5) where
+      abbrev Below : List Rec → Type 0
+      Below γ = Better kinds-before (decoded (code-records bs)) γ (drop 1 (take m (code-records bs))) (e .i ∷ e .j ∷ [])
 
-    pub start-asks : Begins-better bs (e .i) (e .j) (e .c) → Better-below bs 1 (first-state (e .i) (e .j))
-    start-asks m =
-        subst (λ (γ : List Rec). Better kinds-before (decoded (code-records bs)) γ (drop 1 (code-records bs)) (e .i ∷ e .j ∷ [])) (sym through)
-        (first-from (decoded (code-records bs)) _ _ (e .i) (e .j) (e .c) first-is (from m))
+      pub start-tells : Better-below bs m 1 (first-state (e .i) (e .j)) → Begins-better bs m (e .i) (e .j) (e .c)
+      start-tells x =
+          to m more within (first-on (decoded (code-records bs)) _ _ (e .i) (e .j) (e .c) first-is (subst Below through x))
+
+      pub start-asks : Begins-better bs m (e .i) (e .j) (e .c) → Better-below bs m 1 (first-state (e .i) (e .j))
+      start-asks x =
+          subst Below (sym through) (first-from (decoded (code-records bs)) _ _ (e .i) (e .j) (e .c) first-is (from m more within x))
 
 -- BY NUMBER: the labels of a start and of the code's first record as one number each
 module _ (bs : List ℕ) (ok : code-refusal bs ≡ 0) {e : Rec} (s : Seen-cable (decoded (code-records bs)) e) {a b : ℕ} (p : Numbers-labels e a)
@@ -175,14 +202,14 @@ module _ (bs : List ℕ) (ok : code-refusal bs ≡ 0) {e : Rec} (s : Seen-cable 
   ends-are : (rec-in (row 5 0 bs) .i ≡ 0) × (rec-in (row 5 0 bs) .j ≡ 1)
   ends-are = first-ends bs ok s
 
-  pub lower-start : a < b → Begins-better bs (e .i) (e .j) (e .c)
-  lower-start h =
-      start-before bs ok s
+  pub lower-start : a < b → (m : ℕ) → 0 < m → m ≤ length bs / 5 → Begins-better bs m (e .i) (e .j) (e .c)
+  lower-start h m more within =
+      start-before bs ok s m more within
       (lower-number (begins e) (rec-in (row 5 0 bs)) number q (omega arith) (sym (ends-are .0)) (sym (ends-are .1)) h)
 
-  pub higher-start : b < a → Begins-better bs (e .i) (e .j) (e .c) → ⊥
-  higher-start h =
-      start-after bs ok s
+  pub higher-start : b < a → (m : ℕ) → 0 < m → m ≤ length bs / 5 → Begins-better bs m (e .i) (e .j) (e .c) → ⊥
+  higher-start h m more within =
+      start-after bs ok s m more within
       (lower-number (rec-in (row 5 0 bs)) (begins e) q number (omega (arith, ends-are .0, ends-are .1)) (ends-are .0) (ends-are .1) h)
 
   pub same-start : a ≡ b → begins e ≡ rec-in (row 5 0 bs)
@@ -190,11 +217,11 @@ module _ (bs : List ℕ) (ok : code-refusal bs ≡ 0) {e : Rec} (s : Seen-cable 
 
 -- the code's own start is that along its first record
 pub own-start :
-    (bs : List ℕ) (ok : code-refusal bs ≡ 0) {e : Rec} → Seen-cable (decoded (code-records bs)) e → e ≡ rec-in (row 5 0 bs)
-    → (Better-below bs 1 (first-state 0 1) → ⊥) → Better-below bs 1 (first-state (e .i) (e .j)) → ⊥
-own-start bs ok {e} s is none =
-    subst (λ (w : ℕ). Better-below bs 1 (first-state (e .i) w) → ⊥) (sym (ap (λ (r : Rec). r .j) is ∙ first-ends bs ok s .1))
-    (subst (λ (u : ℕ). Better-below bs 1 (first-state u 1) → ⊥) (sym (ap (λ (r : Rec). r .i) is ∙ first-ends bs ok s .0)) none)
+    (bs : List ℕ) (ok : code-refusal bs ≡ 0) {e : Rec} → Seen-cable (decoded (code-records bs)) e → e ≡ rec-in (row 5 0 bs) → (m : ℕ)
+    → (Better-below bs m 1 (first-state 0 1) → ⊥) → Better-below bs m 1 (first-state (e .i) (e .j)) → ⊥
+own-start bs ok {e} s is m none =
+    subst (λ (w : ℕ). Better-below bs m 1 (first-state (e .i) w) → ⊥) (sym (ap (λ (r : Rec). r .j) is ∙ first-ends bs ok s .1))
+    (subst (λ (u : ℕ). Better-below bs m 1 (first-state u 1) → ⊥) (sym (ap (λ (r : Rec). r .i) is ∙ first-ends bs ok s .0)) none)
 
 -- EVERY CABLE is that of some record
 pub record Cable-record (bs : List ℕ) (u w k : ℕ) : Type 0 where
@@ -223,33 +250,33 @@ cable-record bs u w k h = go (cable-place (decoded (code-records bs) .cables) h)
         is = record-cable bs (p .at) low (rec-in (row 5 (p .at) bs)) refl
 
 -- ALL STARTS, record by record
-module _ (bs : List ℕ) where
-  pub tried-start : Tried bs 0
-  tried-start = record { along = λ m h. absurd (omega arith); against = λ m h. absurd (omega arith) }
+module _ (bs : List ℕ) (m : ℕ) where
+  pub tried-start : Tried bs m 0
+  tried-start = record { along = λ j h. absurd (omega arith); against = λ j h. absurd (omega arith) }
 
   pub tried-next :
-      (n : ℕ) (e : Rec) → e ≡ rec-in (row 5 n bs) → Tried bs n
-      → (Begins-better bs (e .i) (e .j) (e .c) → ⊥)
-      → (Begins-better bs (e .j) (e .i) (e .c) → ⊥) → Tried bs (n + 1)
+      (n : ℕ) (e : Rec) → e ≡ rec-in (row 5 n bs) → Tried bs m n
+      → (Begins-better bs m (e .i) (e .j) (e .c) → ⊥)
+      → (Begins-better bs m (e .j) (e .i) (e .c) → ⊥) → Tried bs m (n + 1)
   tried-next n e is before a b =
-      record { along = λ m h x q y. along-at m h x q y (decLt m n); against = λ m h x q y. against-at m h x q y (decLt m n) }
+      record { along = λ j h x q y. along-at j h x q y (decLt j n); against = λ j h x q y. against-at j h x q y (decLt j n) }
     where
-      same : (m : ℕ) → m < n + 1 → (m < n → ⊥) → (x : Rec) → x ≡ rec-in (row 5 m bs) → x ≡ e
-      same m h l x q = let z : m ≡ n = omega arith in q ∙ ap (λ (k : ℕ). rec-in (row 5 k bs)) z ∙ sym is
+      same : (j : ℕ) → j < n + 1 → (j < n → ⊥) → (x : Rec) → x ≡ rec-in (row 5 j bs) → x ≡ e
+      same j h l x q = let z : j ≡ n = omega arith in q ∙ ap (λ (k : ℕ). rec-in (row 5 k bs)) z ∙ sym is
 
       along-at :
-          (m : ℕ) → m < n + 1 → (x : Rec) → x ≡ rec-in (row 5 m bs)
-          → Begins-better bs (x .i) (x .j) (x .c) → Dec (m < n) → ⊥
-      along-at m h x q y (yes l) = before .along m l x q y
-      along-at m h x q y (no l) = a (rw (same m h l x q) at y)
+          (j : ℕ) → j < n + 1 → (x : Rec) → x ≡ rec-in (row 5 j bs)
+          → Begins-better bs m (x .i) (x .j) (x .c) → Dec (j < n) → ⊥
+      along-at j h x q y (yes l) = before .along j l x q y
+      along-at j h x q y (no l) = a (rw (same j h l x q) at y)
 
       against-at :
-          (m : ℕ) → m < n + 1 → (x : Rec) → x ≡ rec-in (row 5 m bs)
-          → Begins-better bs (x .j) (x .i) (x .c) → Dec (m < n) → ⊥
-      against-at m h x q y (yes l) = before .against m l x q y
-      against-at m h x q y (no l) = b (rw (same m h l x q) at y)
+          (j : ℕ) → j < n + 1 → (x : Rec) → x ≡ rec-in (row 5 j bs)
+          → Begins-better bs m (x .j) (x .i) (x .c) → Dec (j < n) → ⊥
+      against-at j h x q y (yes l) = before .against j l x q y
+      against-at j h x q y (no l) = b (rw (same j h l x q) at y)
 
-  pub tried-all : (n : ℕ) → length bs / 5 ≤ n → Tried bs n → Some-start (code-records bs) → ⊥
+  pub tried-all : (n : ℕ) → length bs / 5 ≤ n → Tried bs m n → Some-start (code-records bs) m → ⊥
   unfolding cable-of
   tried-all n h T s = go (cable-record bs (s .u) (s .w) (s .k) (s .has))
     where
@@ -262,7 +289,15 @@ module _ (bs : List ℕ) where
           end (against x y) =
               T .against (p .at) (omega (arith, p .low)) (rec-in (row 5 (p .at) bs)) refl (rw (x, y, p .kind-is) (s .better))
 
--- A CODE IS LEAST exactly if no start comes before it
+-- what was tried of more records was tried of fewer
+pub starts-of-fewer : (bs : List ℕ) (j m n : ℕ) → j ≤ m → Tried bs m n → Tried bs j n
+starts-of-fewer bs j m n h T =
+    record {
+      along = λ k l e is x. T .along k l e is (begins-of-more bs j m (e .i) (e .j) (e .c) h x);
+      against = λ k l e is x. T .against k l e is (begins-of-more bs j m (e .j) (e .i) (e .c) h x);
+    }
+
+-- THE FIRST m RECORDS ARE GREEDY exactly if no start comes before them
 branch-clash :
     (d : Drawing) → Simple d → devices d ≤ 10 → (u w k : ℕ) → Has u w k (d .cables) → (r : Rec) (ss : List Rec) → first-record d u w k ≡ r
     → Better kinds-before d (r ∷ []) ss (u ∷ w ∷ []) → Greedy kinds-before d [] (r ∷ ss) → ⊥
@@ -270,20 +305,30 @@ branch-clash d s ten u w k h r ss q =
     subst (λ (z : Rec). Better kinds-before d (z ∷ []) ss (u ∷ w ∷ []) → Greedy kinds-before d [] (z ∷ ss) → ⊥) q
     (branch-not-greedy kinds-before d s ten u w k h ss)
 
-pub some-not-least : (rs : List Rec) → Pattern (decoded rs) → Some-start rs → Least (decoded rs) rs → ⊥
-unfolding Start-better
-some-not-least [] p s l = s .better
-some-not-least (r ∷ ss) p s l = go (s .better) (least-greedy kinds-before kinds-order (decoded (r ∷ ss)) p (r ∷ ss) l)
-  where
-    go : Start-better (decoded (r ∷ ss)) (r ∷ ss) (s .u) (s .w) (s .k) → Greedy kinds-before (decoded (r ∷ ss)) [] (r ∷ ss) → ⊥
-    go (inl q) g = start-not-greedy kinds-before (decoded (r ∷ ss)) (p .simple) (s .u) (s .w) (s .k) (s .has) r ss q g
-    go (inr m) g = branch-clash (decoded (r ∷ ss)) (p .simple) (p .devices-high) (s .u) (s .w) (s .k) (s .has) r ss (m .0) (m .1) g
+module _ (d : Drawing) (s : Simple d) (ten : devices d ≤ 10) where
+  start-not-greedy-rows : (ss : List Rec) (u w k : ℕ) → Has u w k (d .cables) → Start-better d ss u w k → Greedy kinds-before d [] ss → ⊥
+  unfolding Start-better
+  start-not-greedy-rows [] u w k h x g = x
+  start-not-greedy-rows (r ∷ ss) u w k h (inl q) g = start-not-greedy kinds-before d s u w k h r ss q g
+  start-not-greedy-rows (r ∷ ss) u w k h (inr m) g = branch-clash d s ten u w k h r ss (m .0) (m .1) g
 
-pub none-least : (rs : List Rec) → rows-good rs ≡ true → Pattern (decoded rs) → (Some-start rs → ⊥) → Least (decoded rs) rs
-unfolding Start-better
-none-least [] good p n = absurd (omega (arith, good-from-test [] good .one))
-none-least (r ∷ ss) good p n =
-    greedy-least-itself kinds-before kinds-order r ss good
-    (start-greedy kinds-before (decoded (r ∷ ss)) (p .simple) r ss (good-from-test (r ∷ ss) good .accepted)
-    (λ u w k h. false-unless _ (λ z. n (record { u = u; w = w; k = k; has = h; better = inl z })))
-    (λ u w k h q m. n (record { u = u; w = w; k = k; has = h; better = inr (q, m) })))
+  no-start-greedy-rows : (ss : List Rec) → rows-refusal fresh ss ≡ 0
+      → ((u w k : ℕ) → Has u w k (d .cables) → Start-better d ss u w k → ⊥) → Greedy kinds-before d [] ss
+  unfolding Start-better Greedy
+  no-start-greedy-rows [] ok none = tt
+  no-start-greedy-rows (r ∷ ss) ok none =
+      start-greedy kinds-before d s r ss ok
+      (λ u w k h. false-unless _ (λ z. none u w k h (inl z)))
+      (λ u w k h q m. none u w k h (inr (q, m)))
+
+pub some-not-greedy :
+    (rs : List Rec) (m : ℕ) → Pattern (decoded rs) → Some-start rs m → Greedy kinds-before (decoded rs) [] (take m rs) → ⊥
+some-not-greedy rs m p s = start-not-greedy-rows (decoded rs) (p .simple) (p .devices-high) (take m rs) (s .u) (s .w) (s .k) (s .has) (s .better)
+
+pub none-greedy :
+    (rs : List Rec) (m : ℕ) → rows-refusal fresh rs ≡ 0 → Pattern (decoded rs) → (Some-start rs m → ⊥)
+    → Greedy kinds-before (decoded rs) [] (take m rs)
+none-greedy rs m ok p n =
+    no-start-greedy-rows (decoded rs) (p .simple) (p .devices-high) (take m rs)
+    (rows-divided fresh (take m rs) (drop m rs) (subst (λ (l : List Rec). rows-refusal fresh l ≡ 0) (sym (take-append-drop m rs)) ok) .0)
+    (λ u w k h b. n (record { u = u; w = w; k = k; has = h; better = b }))

@@ -1,3 +1,5 @@
 -- Laws.
 pub mod StartNumbers
 pub mod LeastStarts
+pub mod FirstStartLaws
+pub mod LeastAgreements

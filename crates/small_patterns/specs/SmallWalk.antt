@@ -25,8 +25,8 @@ use Rattle.small_patterns.specs.declared.next.BookBounds.{BookBounds}
 
 -- WHAT THE LEAST TEST SAYS, as yes or not
 abbrev pub is-yes : Verdict → Bool
-is-yes verdict.Yes = true
-is-yes verdict.No = false
+is-yes (verdict.Yes k) = true
+is-yes (verdict.No k) = false
 is-yes (verdict.Refused x) = false
 
 pub record Says-least (bs : List ℕ) (r : Bool) : Type 0 where

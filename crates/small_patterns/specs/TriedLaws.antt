@@ -1,13 +1,14 @@
 -- What the least test tells of a code with one record more: yes exactly if it is listed. Rests on SectionCodes and SmallFamily. Assumes nothing.
-use mathlib.Core.Path.{_≡_, refl, sym, _∙_, subst}
+use mathlib.Core.Path.{_≡_, refl, sym, ap, _∙_, subst}
 use mathlib.Core.Bool.{Bool, true, false, _&&_}
 use mathlib.Core.List.{List, [], _∷_}
-use mathlib.Core.Logic.{inl, inr}
+use mathlib.Core.Logic.{_⊎_, inl, inr}
 use Prim.Native.Nat.{ℕ, _+_, _*_, _≤_}
 use native.Mathlib.Omega.{arith}
 use lib.Dec.{eqb}
 use lib.ListN.{length, getD, take}
 use borrow.Author.Tests.{eqb-true}
+use Rattle.laws.specs.Tests.{true-and-false}
 use Rattle.laws.specs.Lists.{snoc, mem-at}
 use Rattle.graphs.specs.Drawing.{Drawing, byte-list}
 use Rattle.graphs.specs.Graph.{Pattern}
@@ -18,9 +19,9 @@ use Rattle.codes.specs.CodeFronts.{front-records, front-accepted}
 use Rattle.codes.specs.RecordPut.{Record-put}
 use Rattle.codes.specs.ReadRows.{good-from-test}
 use Rattle.codes.specs.Decoded.{decoded-pattern}
-use Rattle.codes.specs.SectionCode.{lone-row, lone-bytes, section-code-refusal, section-of, Least-section}
+use Rattle.codes.specs.SectionCode.{lone-row, lone-bytes, records-good, section-code-refusal, section-of, Least-section}
 use Rattle.codes.specs.SectionCodes.{section-of-rows, least-pattern, pattern-least}
-use Rattle.records.specs.declared.refusal.Refusal.{Refusal}
+use Rattle.codes.specs.SectionBytes.{accepted-section-code}
 use Rattle.records.specs.declared.refusal.Checked.{Checked}
 use Rattle.records.specs.declared.refusal.Checked.the-variants as checked
 use Rattle.code_checks.specs.declared.answer.Verdict.{Verdict}
@@ -28,10 +29,11 @@ use Rattle.code_checks.specs.declared.answer.Verdict.the-variants as verdict
 use Rattle.code_checks.specs.SectionChecks.{section-code-checked}
 use Rattle.code_checks.specs.SectionCheckLaws.{section-checked-accepted, section-accepted-checked}
 use Rattle.coding.specs.LeastSays.{Least-answer, Least-says}
+use Rattle.coding.specs.LeastSaysLaws.{told-least}
 use Rattle.growth.specs.Family.{Listable}
 use Rattle.books.specs.SmallFamily.{Small-labels, small-more, small-last}
 use Rattle.small_patterns.specs.declared.next.BookBounds.{BookBounds}
-use Rattle.laws.specs.Decides.{Decides, decides-true, decides-false}
+use Rattle.laws.specs.Decides.{decides-false}
 use Rattle.small_patterns.specs.SmallWalk.{is-yes, Says-least, Joins-two, Asked, Few, Record-tried}
 
 -- a record between two devices is no lone device's
@@ -50,16 +52,6 @@ not-lone (r ∷ s ∷ rs) e two = refl
 small-bytes : (g : BookBounds) → Few g → (p : Drawing) → Asked g p → byte-list (p .kinds) ≡ true
 small-bytes g few p s =
     byte-list-from (p .kinds) (λ i h. omega (arith, few .devices, s .device-kinds (getD (p .kinds) i 256) (mem-at 256 (p .kinds) i h)))
-
--- no two verdicts are equal
-yes-no : verdict.Yes ≡ verdict.No → ⊥
-yes-no e = let z : _≡_ {A = ℕ} 0 1 = cc in absurd (omega arith)
-
-yes-refused : {x : Refusal} → verdict.Yes ≡ verdict.Refused x → ⊥
-yes-refused e = let z : _≡_ {A = ℕ} 0 1 = cc in absurd (omega arith)
-
-no-refused : {x : Refusal} → verdict.No ≡ verdict.Refused x → ⊥
-no-refused e = let z : _≡_ {A = ℕ} 0 1 = cc in absurd (omega arith)
 
 module _ {g : BookBounds} (few : Few g) {code now : List ℕ} {m : ℕ} {e : Rec} (long : length code ≡ 100) (low : m ≤ 7) (two : Joins-two e)
     (p : Record-put code m e now) where
@@ -90,14 +82,14 @@ module _ {g : BookBounds} (few : Few g) {code now : List ℕ} {m : ℕ} {e : Rec
       let rs = snoc (recs-in m code) e in
       rw (records, section-of-rows rs (f .least .code .good)) (least-pattern kinds-before (pattern-from-test (decoded rs) (f .drawn)) (f .least))
 
-  -- YES: it is listed
-  yes-listed : Asked g (decoded (recs-in m code)) → Small-labels (g .devices) (g .cables) e → Least-says (take (5 * (m + 1)) now) verdict.Yes
-      → Listable kinds-before (Asked g) (snoc (recs-in m code) e)
-  yes-listed s l says = go (section-code-checked (take (5 * (m + 1)) now)) refl says
-    where
-      bs : List ℕ
-      bs = take (5 * (m + 1)) now
+  good-rows : section-code-refusal (take (5 * (m + 1)) now) ≡ 0 → records-good (code-records (take (5 * (m + 1)) now)) ≡ true
+  good-rows z = accepted-section-code (take (5 * (m + 1)) now) z .good
 
+  -- YES: it is listed
+  if-yes : Asked g (decoded (recs-in m code)) → Small-labels (g .devices) (g .cables) e → (v : Verdict) → Least-says (take (5 * (m + 1)) now) v
+      → is-yes v ≡ true → Listable kinds-before (Asked g) (snoc (recs-in m code) e)
+  if-yes s l v says y = go (section-code-checked (take (5 * (m + 1)) now)) refl says
+    where
       rs : List Rec
       rs = snoc (recs-in m code) e
 
@@ -118,28 +110,35 @@ module _ {g : BookBounds} (few : Few g) {code now : List ℕ} {m : ℕ} {e : Rec
           smallest : Least-section (decoded (snoc (recs-in m code) e)) (snoc (recs-in m code) e)
           smallest = rw (records, section-of-rows (snoc (recs-in m code) e) good) at least
 
-      go : (c : Checked) → section-code-checked (take (5 * (m + 1)) now) ≡ c → Least-answer c (code-records (take (5 * (m + 1)) now)) verdict.Yes
+      go : (c : Checked) → section-code-checked (take (5 * (m + 1)) now) ≡ c → Least-answer c (code-records (take (5 * (m + 1)) now)) v
           → Listable kinds-before (Asked g) (snoc (recs-in m code) e)
-      go (checked.Refused x) q w = absurd (yes-refused w)
-      go checked.Accepted q (inl w) = made (section-checked-accepted (take (5 * (m + 1)) now) q) (w .1)
-      go checked.Accepted q (inr w) = absurd (yes-no (w .0))
+      go (checked.Refused x) q w = absurd (true-and-false y (ap is-yes w))
+      go checked.Accepted q w = told (told-least w (good-rows fine-code))
+        where
+          fine-code : section-code-refusal (take (5 * (m + 1)) now) ≡ 0
+          fine-code = section-checked-accepted (take (5 * (m + 1)) now) q
 
-  -- NO, or refused: it is not
-  no-listed : Least-says (take (5 * (m + 1)) now) verdict.No → Listable kinds-before (Asked g) (snoc (recs-in m code) e) → ⊥
-  no-listed says f = go (subst (λ (c : Checked). Least-answer c (code-records (take (5 * (m + 1)) now)) verdict.No) (fine f) says)
-    where
-      go : Least-answer checked.Accepted (code-records (take (5 * (m + 1)) now)) verdict.No → ⊥
-      go (inl w) = yes-no (sym (w .0))
-      go (inr w) = w .1 (least-too f)
+          told : {n k : ℕ}
+              → ((v ≡ verdict.Yes n) × Least-section (section-of (code-records (take (5 * (m + 1)) now))) (code-records (take (5 * (m + 1)) now)))
+              ⊎ ((v ≡ verdict.No k)
+              × (Least-section (section-of (code-records (take (5 * (m + 1)) now))) (code-records (take (5 * (m + 1)) now)) → ⊥))
+              → Listable kinds-before (Asked g) (snoc (recs-in m code) e)
+          told (inl x) = made fine-code (x .1)
+          told (inr x) = absurd (true-and-false y (ap is-yes (x .0)))
 
-  refused-listed : (x : Refusal) → Least-says (take (5 * (m + 1)) now) (verdict.Refused x)
-      → Listable kinds-before (Asked g) (snoc (recs-in m code) e) → ⊥
-  refused-listed x says f =
-      go (subst (λ (c : Checked). Least-answer c (code-records (take (5 * (m + 1)) now)) (verdict.Refused x)) (fine f) says)
+  -- what is listed is answered yes
+  yes-if : Listable kinds-before (Asked g) (snoc (recs-in m code) e) → (v : Verdict) → Least-says (take (5 * (m + 1)) now) v → is-yes v ≡ true
+  yes-if f v says =
+      go (told-least (subst (λ (c : Checked). Least-answer c (code-records (take (5 * (m + 1)) now)) v) (fine f) says)
+      (good-rows (section-checked-accepted (take (5 * (m + 1)) now) (fine f))))
     where
-      go : Least-answer checked.Accepted (code-records (take (5 * (m + 1)) now)) (verdict.Refused x) → ⊥
-      go (inl w) = yes-refused (sym (w .0))
-      go (inr w) = no-refused (sym (w .0))
+      go : {n k : ℕ}
+          → ((v ≡ verdict.Yes n) × Least-section (section-of (code-records (take (5 * (m + 1)) now))) (code-records (take (5 * (m + 1)) now)))
+          ⊎ ((v ≡ verdict.No k)
+          × (Least-section (section-of (code-records (take (5 * (m + 1)) now))) (code-records (take (5 * (m + 1)) now)) → ⊥))
+          → is-yes v ≡ true
+      go (inl x) = ap is-yes (x .0)
+      go (inr x) = absurd (x .1 (least-too f))
 
   -- WITH OTHER LABELS it is not
   labels-listed : (Small-labels (g .devices) (g .cables) e → ⊥) → Listable kinds-before (Asked g) (snoc (recs-in m code) e) → ⊥
@@ -149,13 +148,15 @@ module _ {g : BookBounds} (few : Few g) {code now : List ℕ} {m : ℕ} {e : Rec
 
   -- TRIED with labels within the bounds, and without
   pub tried-within : {r : Bool} → Small-labels (g .devices) (g .cables) e → Says-least (take (5 * (m + 1)) now) r → Record-tried g code m e r now
-  tried-within {r} l v = record { put = p; decides = λ s. go s (v .verdict) (v .says) (v .is) }
-    where
-      go : Asked g (decoded (recs-in m code)) → (w : Verdict) → Least-says (take (5 * (m + 1)) now) w → r ≡ is-yes w
-          → Decides r (Listable kinds-before (Asked g) (snoc (recs-in m code) e))
-      go s verdict.Yes says q = rw q (decides-true (yes-listed s l says))
-      go s verdict.No says q = rw q (decides-false (no-listed says))
-      go s (verdict.Refused x) says q = rw q (decides-false (refused-listed x says))
+  tried-within {r} l v =
+      record {
+        put = p;
+        decides = λ s.
+            record {
+              holds = λ e. if-yes s l (v .verdict) (v .says) (sym (v .is) ∙ e);
+              fails = λ e f. true-and-false (yes-if f (v .verdict) (v .says)) (sym (v .is) ∙ e);
+            };
+      }
 
   pub tried-without : (Small-labels (g .devices) (g .cables) e → ⊥) → Record-tried g code m e false now
   tried-without bad = record { put = p; decides = λ s. decides-false (labels-listed bad) }

@@ -26,8 +26,8 @@ fn least_front(code: &[u8], records: usize) -> bool
 {
     let end = Code::RECORD_BYTES * records;
     match is_least(&code[..end]) {
-        Verdict::Yes => true,
-        Verdict::No => false,
+        Verdict::Yes(_) => true,
+        Verdict::No(_) => false,
         Verdict::Refused(_) => false,
     }
 }

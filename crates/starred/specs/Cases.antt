@@ -12,6 +12,7 @@ use Rattle.graphs.specs.Map.{same-by, maps-into, least-map, contains, Found}
 use Rattle.graphs.specs.Survey.{survey, cranes, survey-refusal}
 use Rattle.codes.specs.Code.{Rec, kinds-before, rows-good, rec-bytes, decoded, Code-of}
 use Rattle.codes.specs.SectionCode.{lone-code, section-code-refusal, Least-section}
+use Rattle.codes.specs.Agreement.{agreement}
 use Rattle.codes.specs.LeastSearch.{rows-same, is-least-code}
 use Rattle.growth.specs.Catalogue.{Entry, entry, Catalogue}
 use Rattle.growth.specs.Mined.{mined-entries}
@@ -21,6 +22,8 @@ pub data Case : Type 0 where
   coded : (drawing : List ℕ) (code : List Rec) → Case
   -- the drawing is accepted and has cables, and this is a DFS code of it, not its least
   other-code : (drawing : List ℕ) (code : List Rec) → Case
+  -- the two codes agree in so many records before they part
+  agree : (first second : List Rec) (records : ℕ) → Case
   -- the code's bytes are refused with this number
   refused-code : (code : List ℕ) (number : ℕ) → Case
   -- both drawings are accepted, and this is the least map of the first into the second
@@ -34,6 +37,7 @@ pub data Case : Type 0 where
 unfoldable pub Holds : Case → Type 0
 Holds (coded bs rs) = (accepted bs ≡ true) × Least-section (drawing-in bs) rs
 Holds (other-code bs rs) = (accepted bs ≡ true) × Code-of (drawing-in bs) rs × (Least-section (drawing-in bs) rs → ⊥)
+Holds (agree rs ss n) = agreement rs ss ≡ n
 Holds (refused-code bs n) = section-code-refusal bs ≡ n
 Holds (matched ps ds f) = (accepted ps ≡ true) × (accepted ds ≡ true) × Found (drawing-in ps) (drawing-in ds) f
 Holds (not-contained ps ds) =
@@ -75,6 +79,7 @@ unfoldable pub meets : Case → Bool
 meets (coded bs rs) = accepted bs && is-least-section (drawing-in bs) rs
 meets (other-code bs rs) =
     accepted bs && (has-cables (drawing-in bs) && (is-code-of (drawing-in bs) rs && not (is-least-code kinds-before (drawing-in bs) rs)))
+meets (agree rs ss n) = eqb (agreement rs ss) n
 meets (refused-code bs n) = eqb (section-code-refusal bs) n
 meets (matched ps ds f) = accepted ps && (accepted ds && is-map (least-map (drawing-in ps) (drawing-in ds)) f)
 meets (not-contained ps ds) = accepted ps && (accepted ds && not (contains (drawing-in ps) (drawing-in ds)))
@@ -147,6 +152,12 @@ table =
     ∷ alike 4 ((0, 1) ∷ (1, 2) ∷ (1, 3) ∷ [])
     -- D8 a DFS code of D3, not its least
     ∷ other-code (path-of-3 0) (plain-code ((0, 1) ∷ (0, 2) ∷ []))
+    -- it parts from D3's least code behind the first record; D3's begins D4's, and each agrees with itself in all
+    ∷ agree (plain-code ((0, 1) ∷ (0, 2) ∷ [])) (plain-code ((0, 1) ∷ (1, 2) ∷ [])) 1
+    ∷ agree (plain-code ((0, 1) ∷ (1, 2) ∷ [])) (plain-code ((0, 1) ∷ (1, 2) ∷ (2, 0) ∷ [])) 2
+    ∷ agree (plain-code ((0, 1) ∷ (1, 2) ∷ (2, 0) ∷ [])) (plain-code ((0, 1) ∷ (1, 2) ∷ (2, 0) ∷ [])) 3
+    -- D1's and D2's part in the first record
+    ∷ agree (tuple 0 1 1 7 2 ∷ []) (tuple 0 1 1 4 3 ∷ tuple 0 2 1 9 2 ∷ []) 0
     -- D9 refusal 10
     ∷ refused-code (rec-bytes (plain-code ((0, 1) ∷ (1, 2) ∷ (0, 3) ∷ (1, 4) ∷ []))) 10
     -- D10 refusal 10
@@ -162,6 +173,9 @@ table =
     -- one device, kinds 7 and 8
     ∷ coded (drawing-of (7 ∷ []) []) (lone-code 7)
     ∷ coded (drawing-of (8 ∷ []) []) (lone-code 8)
+    -- the same code agrees in its one record, another in none
+    ∷ agree (lone-code 7) (lone-code 7) 1
+    ∷ agree (lone-code 7) (lone-code 8) 0
     -- a cable kind, unequal kinds, both, the record twice, and behind a code
     ∷ refused-code (0 ∷ 0 ∷ 7 ∷ 1 ∷ 7 ∷ []) 10
     ∷ refused-code (0 ∷ 0 ∷ 7 ∷ 0 ∷ 8 ∷ []) 11

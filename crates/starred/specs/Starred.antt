@@ -11,6 +11,7 @@ use lib.ListN.{length}
 use borrow.Author.Tests.{eqb-true, leb-true, le-leb, not-true}
 use Rattle.laws.specs.Tests.{and-split, true-and-false}
 use Rattle.laws.specs.Lists.{Mem, concat}
+use Rattle.laws.specs.CommonFronts.{common-front}
 use Rattle.laws.specs.Rows.{rows}
 use Rattle.laws.specs.Selections.{each, only-if, least-of}
 use Rattle.laws.specs.Rising.{placed, sorted}
@@ -105,6 +106,7 @@ use Rattle.codes.specs.Code.{
   rec-before-by,
   rec-same,
 }
+use Rattle.codes.specs.Agreement.{agreement}
 use Rattle.codes.specs.CodeOrder.{kinds-order}
 use Rattle.codes.specs.SectionCode.{
   lone-record,
@@ -142,6 +144,7 @@ use Rattle.starred.specs.Cases.{
   Case,
   coded,
   other-code,
+  agree,
   refused-code,
   matched,
   not-contained,
@@ -170,7 +173,7 @@ unfolding table has-cables is-least-section cables-fit lone-record lone-row lone
     is-least-code rows-same least-code search-rows least-record after-record locals chord-choice edge-choice firsts first-choice ways
     first-record edge-record chord-record least-of only-if each concat rows
     code-refusal recs-in rec-in rec-bytes rows-good rows-refusal kinds-match step-good forward-good backward-good second end forward
-    stepped cut-to cable-of read-rows fresh decoded rec-same rec-before-by kinds-before
+    stepped cut-to cable-of read-rows fresh decoded rec-same rec-before-by kinds-before agreement common-front
     least-map search-from step-fits when try-each or-map fits-so-far same-by inverse-from inverse-at maps-into cables-land kinds-kept
     all-different has-cable accepted byte-list drawing-refusal connected reached spread with-ends member unused-zero all-zero
     cable-refusal joined-by joins drawing-bytes cable-bytes drawing-in cables-in cable-in
@@ -253,6 +256,7 @@ meets-holds (other-code bs rs) h =
     let pattern = with-cables d (accepted-section bs (s .0)) (u .0) in
     let to-test = least-to-test kinds-before kinds-order d pattern rs in
     (s .0, code-from-test d rs (t .0), λ l. true-and-false (to-test (pattern-least kinds-before pattern l)) other)
+meets-holds (agree rs ss n) h = eqb-true (agreement rs ss) n h
 meets-holds (refused-code bs n) h = eqb-true (section-code-refusal bs) n h
 meets-holds (matched ps ds f) h =
     let s = and-split (accepted ps) (accepted ds && is-map (least-map (drawing-in ps) (drawing-in ds)) f) h in

@@ -6,7 +6,7 @@ use records::refusal::Refusal;
 use records::refusal::number;
 use records::survey::SurveyChecked;
 
-// The refusal, 0 for none; the drawing or the code record at fault; the count.
+// The refusal, 0 for none; the drawing or the code record at fault, or the record on which two codes part; the count.
 pub struct Answer(pub u32, pub usize, pub usize);
 
 // No refusal has this number: the list asks for a call that there is not.

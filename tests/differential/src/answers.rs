@@ -1,4 +1,5 @@
 //! What each call answers and leaves in the lent bytes, by the paper's table of refusals and the other algorithms.
+use crate::agreement;
 use crate::catalogue::{self, Entry};
 use crate::code;
 use crate::drawing::{Drawing, RECORD};
@@ -28,6 +29,11 @@ impl Answer {
         Answer::written(said, count, &[], &[])
     }
 
+    /// What is decided of two codes, and how far they agree.
+    fn agreeing(said: &'static str, decided: usize, agreement: usize) -> Self {
+        Answer::counted(said, agreement::TIMES * agreement + decided)
+    }
+
     /// The bytes in front, and behind them what was there.
     fn written(said: &'static str, count: usize, bytes: &[u8], lent: &[u8]) -> Self {
         Answer {
@@ -46,6 +52,15 @@ impl Answer {
             count: 0,
             output: lent.to_vec(),
         }
+    }
+
+    /// The number that a call from C returns. It names a drawing at fault, but no record of a code.
+    pub fn returned(&self) -> u64 {
+        let drawing = match self.refused.number {
+            10 | 11 => 0,
+            _ => self.refused.at,
+        };
+        (drawing as u64 * 256 + u64::from(self.refused.number)) * (1 << 32) + self.count as u64
     }
 }
 
@@ -108,19 +123,25 @@ pub fn decode(bytes: &[u8], lent: &[u8]) -> Answer {
 pub fn is_least(bytes: &[u8]) -> Answer {
     match code::read(bytes) {
         Err(refused) => Answer::refused(refused, FIRST, &[]),
-        Ok(code) if code == code::least(&code::described(&code)) => Answer::counted("yes", 1),
-        Ok(_) => Answer::counted("no", 0),
+        Ok(code) => {
+            let least = code::least(&code::described(&code));
+            let (said, decided) = if code == least { ("yes", 1) } else { ("no", 0) };
+            Answer::agreeing(said, decided, agreement::of(&code, &least))
+        }
     }
 }
 
 pub fn compare(first: &[u8], second: &[u8]) -> Answer {
     match both(code::read(first), code::read(second)) {
         Err((refused, whose)) => Answer::refused(refused, whose, &[]),
-        Ok((first, second)) => match code::order(&first, &second) {
-            Ordering::Equal => Answer::counted("equal", 0),
-            Ordering::Less => Answer::counted("before", 1),
-            Ordering::Greater => Answer::counted("after", 2),
-        },
+        Ok((first, second)) => {
+            let (said, decided) = match code::order(&first, &second) {
+                Ordering::Equal => ("equal", 0),
+                Ordering::Less => ("before", 1),
+                Ordering::Greater => ("after", 2),
+            };
+            Answer::agreeing(said, decided, agreement::of(&first, &second))
+        }
     }
 }
 

@@ -2,6 +2,7 @@
 //! output stands between guard bytes. Beside each call the shims of shims.rs spoil a copy of what came back: the same comparison has
 //! to find each of them out at some call.
 use holvreiz::raw;
+use holvreiz_differential::agreement;
 use holvreiz_differential::answers::{self, Answer};
 use holvreiz_differential::book;
 use holvreiz_differential::catalogue::{self, each_its_crane, Codes, Entry, ENTRY, FORMER, USUAL};
@@ -54,24 +55,16 @@ fn outcome(given: &Given, answer: &Answer) -> String {
     said(answer) + lone::near(given.call, given.first, given.second, answer)
 }
 
-/// The number that a call returns. It names a drawing at fault, but no record of a code.
-fn returned(answer: &Answer) -> u64 {
-    let drawing = match answer.refused.number {
-        10 | 11 => 0,
-        _ => answer.refused.at,
-    };
-    (drawing as u64 * 256 + u64::from(answer.refused.number)) * (1 << 32) + answer.count as u64
-}
-
 /// How often each call had each outcome.
 pub type Seen = BTreeMap<(&'static str, String), usize>;
 
-/// What was seen, of each call by itself and of the cranes or the list beside it, and of what was written at two limits; and where the lent bytes
-/// come from.
+/// What was seen, of each call by itself and of the cranes, the list or the agreement beside it, and of what was written at two limits; and where the
+/// lent bytes come from.
 pub struct Calls {
     seen: Seen,
     beside_cranes: Seen,
     beside_lists: Seen,
+    beside_agreements: Seen,
     limits: Seen,
     found: BTreeSet<usize>,
     written_checked: usize,
@@ -81,7 +74,7 @@ pub struct Calls {
 
 /// What is wrong with what came back, if something is.
 fn wrong(expected: &Answer, number: u64, output: &[u8]) -> Option<&'static str> {
-    if number != returned(expected) {
+    if number != expected.returned() {
         return Some("another number was returned");
     }
     (output != expected.output).then_some("another output")
@@ -103,6 +96,7 @@ impl Calls {
             seen: BTreeMap::new(),
             beside_cranes: BTreeMap::new(),
             beside_lists: BTreeMap::new(),
+            beside_agreements: BTreeMap::new(),
             limits: BTreeMap::new(),
             found: BTreeSet::new(),
             written_checked: 0,
@@ -121,6 +115,10 @@ impl Calls {
 
     pub fn seen_beside_lists(&self) -> &Seen {
         &self.beside_lists
+    }
+
+    pub fn seen_beside_agreements(&self) -> &Seen {
+        &self.beside_agreements
     }
 
     /// How often what the library had written at a limit was held against what it had written at a greater one.
@@ -175,6 +173,10 @@ impl Calls {
         for told in cranes::told(&given, lent, &expected) {
             let outcome = said(&expected) + told;
             *self.beside_cranes.entry((call, outcome)).or_default() += 1;
+        }
+        for told in agreement::told(&given, &expected) {
+            let outcome = said(&expected) + told;
+            *self.beside_agreements.entry((call, outcome)).or_default() += 1;
         }
         expected
     }

@@ -207,8 +207,17 @@ pub fn order(first: &[Record], second: &[Record]) -> Ordering {
 
 /// The least of all DFS codes of a drawing.
 pub fn least(drawing: &Drawing) -> Code {
+    least_of(|visit| for_each_code(drawing, visit))
+}
+
+/// The least of those that number one device as the first.
+pub fn least_from(drawing: &Drawing, start: usize) -> Code {
+    least_of(|visit| for_each_code_from(drawing, start, visit))
+}
+
+fn least_of(for_each: impl FnOnce(&mut dyn FnMut(Code))) -> Code {
     let mut best: Option<Code> = None;
-    for_each_code(drawing, &mut |code| {
+    for_each(&mut |code| {
         if best
             .as_ref()
             .is_none_or(|best| order(&code, best) == Ordering::Less)
@@ -221,20 +230,21 @@ pub fn least(drawing: &Drawing) -> Code {
 
 /// Every DFS code of a drawing, once for each numbering of the devices that has it.
 pub fn for_each_code(drawing: &Drawing, visit: &mut dyn FnMut(Code)) {
+    for start in 0..drawing.devices() {
+        for_each_code_from(drawing, start, visit);
+    }
+}
+
+/// Those that number one device as the first.
+pub fn for_each_code_from(drawing: &Drawing, start: usize, visit: &mut dyn FnMut(Code)) {
     let mut walk = Walk {
         drawing,
         joined: drawing.joined(),
-        numbered: Vec::new(),
-        path: Vec::new(),
+        numbered: vec![start],
+        path: vec![start],
         visit,
     };
-    for start in 0..drawing.devices() {
-        walk.numbered.push(start);
-        walk.path.push(start);
-        walk.go_on();
-        walk.numbered.clear();
-        walk.path.clear();
-    }
+    walk.go_on();
 }
 
 /// A depth-first walk: the devices in the order of their numbers, and those on the path from the first to the last.

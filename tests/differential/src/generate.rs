@@ -1,8 +1,10 @@
 //! What the calls are given: drawings of any shape, symmetric ones, the same ones drawn otherwise, parts of them, codes of
 //! them, and all of these damaged; and the cranes that drawings are sheets of.
-use crate::code::{self, Code};
+use crate::agreement;
+use crate::code::{self, Code, Record};
 use crate::drawing::{Cable, Drawing, CRANE_AT, MOST_CABLES, MOST_DEVICES, RECORD};
 use crate::random::Random;
+use std::collections::BTreeMap;
 
 /// How many devices, and how many kinds of devices and of cables: few kinds make many ties.
 #[derive(Clone, Copy)]
@@ -366,6 +368,67 @@ pub fn any_code(random: &mut Random, drawing: &Drawing) -> Code {
         }
     });
     chosen.expect("a connected drawing has a DFS code")
+}
+
+/// Of the codes of a drawing one for each number of records that some of them agree with the least in.
+pub fn codes_by_agreement(random: &mut Random, drawing: &Drawing) -> Vec<Code> {
+    let least = code::least(drawing);
+    let mut chosen: BTreeMap<usize, (usize, Code)> = BTreeMap::new();
+    code::for_each_code(drawing, &mut |code| {
+        let (seen, kept) = chosen.entry(agreement::of(&code, &least)).or_default();
+        *seen += 1;
+        if random.once_in(*seen) {
+            *kept = code;
+        }
+    });
+    chosen.into_values().map(|(_, code)| code).collect()
+}
+
+/// Every code of at most so many records, of devices of kind 1 and cables of these kinds.
+pub fn every_code(records: usize, cable_kinds: &[u8]) -> Vec<Code> {
+    let mut all: Vec<Code> = vec![Vec::new()];
+    let mut grown = 0;
+    while let Some(code) = all.get(grown).cloned() {
+        if code.len() < records {
+            all.extend(with_one_more(&code, cable_kinds));
+        }
+        grown += 1;
+    }
+    all.split_off(1)
+}
+
+/// A code, or nothing, with every record behind it that makes a code of it.
+fn with_one_more(code: &Code, cable_kinds: &[u8]) -> Vec<Code> {
+    let devices = 0..=code.len() + 1;
+    let pairs = devices
+        .clone()
+        .flat_map(|i| devices.clone().map(move |j| (i, j)));
+    let records = pairs.flat_map(|(i, j)| {
+        cable_kinds.iter().map(move |&c| Record {
+            i,
+            j,
+            ki: 1,
+            c,
+            kj: 1,
+        })
+    });
+    let longer = records.map(|record| [&code[..], &[record]].concat());
+    let is_code = |code: &Code| code[0].i != code[0].j && code::read(&code::bytes(code)).is_ok();
+    longer.filter(is_code).collect()
+}
+
+/// A code with another cable kind in one record: a code too, of a drawing that differs in that.
+pub fn other_cable_kind(random: &mut Random, code: &Code) -> Code {
+    let mut other = code.clone();
+    let record = random.below(code.len());
+    other[record].c ^= 1;
+    other
+}
+
+/// Seven devices, each joined with each but for one pair: as many cables as a drawing may have. Some of its codes differ in the last record alone.
+pub fn near_clique() -> Drawing {
+    let pairs = (0..7).flat_map(|v| (0..v).map(move |u| (u, v)));
+    plain(&pairs.skip(1).collect::<Vec<_>>())
 }
 
 /// The bytes of a code with one or two faults. Some of them are none after all.

@@ -1,5 +1,6 @@
 //! Another implementation of every call, by other algorithms and from a second reading of the paper: all numberings of the
 //! devices, all maps, all sets of cables. Nothing here calls the proved library.
+pub mod agreement;
 pub mod answers;
 pub mod book;
 pub mod catalogue;

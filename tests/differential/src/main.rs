@@ -6,6 +6,7 @@
 mod calls;
 
 use calls::{of_limits, refused, Calls, Seen, ALL_KEPT, LEFT_OUT};
+use holvreiz_differential::agreement;
 use holvreiz_differential::answers::{FIRST, LATER, SECOND};
 use holvreiz_differential::catalogue::{each_its_crane, ENTRY, FORMER, USUAL};
 use holvreiz_differential::code;
@@ -151,6 +152,58 @@ fn codes(calls: &mut Calls, random: &mut Random, times: usize) {
         for first in all {
             let second = random.pick(&all);
             calls.compare(first, second);
+        }
+    }
+}
+
+/// Codes of a drawing that agree with its least code in every number of records that there is. Each is tested, and compared with the least code, with
+/// beginnings of that which are as long as the agreement, shorter and longer, and with itself where one cable has another kind.
+fn agreements(calls: &mut Calls, random: &mut Random, drawings: &[Drawing]) {
+    for drawing in drawings {
+        let least = code::least(drawing);
+        for code in generate::codes_by_agreement(random, drawing) {
+            let agreement = agreement::of(&code, &least);
+            let lengths = agreement.saturating_sub(1)..=agreement + 1;
+            let begins = lengths.filter_map(|records| least.get(..records));
+            let begins = begins.filter(|begin| !begin.is_empty());
+            let other = generate::other_cable_kind(random, &code);
+            let fine = code::bytes(&code);
+            calls.is_least(&fine);
+            for second in begins.chain([&least[..], &other]) {
+                let second = code::bytes(second);
+                calls.compare(&fine, &second);
+                calls.compare(&second, &fine);
+            }
+        }
+    }
+}
+
+/// Drawings with cables, of every size and some as large as they get, for the agreement of their codes.
+fn with_cables(random: &mut Random) -> Vec<Drawing> {
+    let clique = generate::near_clique();
+    let mut drawings = vec![generate::turned_over(&clique), clique];
+    drawings.extend(generate::symmetric());
+    // Stars of many leaves have few codes, but nearly a million numberings.
+    drawings.retain(|drawing| drawing.devices() < 8 || drawing.cables.len() >= drawing.devices());
+    for (shape, times) in [(SMALL, 200), (PLAIN, 100), (MIDDLE, 40), (LARGE, 2)] {
+        drawings.extend((0..times).map(|_| generate::drawing(random, shape)));
+    }
+    drawings.extend([1, 2, 3, 256].map(|kinds| generate::drawing_of(random, 10, 20, kinds)));
+    drawings
+}
+
+/// Every code of few records: each is tested, and the shorter ones are compared with each other.
+fn every_small_code(calls: &mut Calls) {
+    for (records, cable_kinds) in [(6, &[5][..]), (4, &[5, 6])] {
+        for code in generate::every_code(records, cable_kinds) {
+            calls.is_least(&code::bytes(&code));
+        }
+        let shorter = generate::every_code(records - 2, cable_kinds);
+        let shorter: Vec<Vec<u8>> = shorter.iter().map(|code| code::bytes(code)).collect();
+        for first in &shorter {
+            for second in &shorter {
+                calls.compare(first, second);
+            }
         }
     }
 }
@@ -784,6 +837,16 @@ fn list_outcomes() -> Vec<(&'static str, String)> {
     outcomes
 }
 
+/// What is answered beside agreements of every kind.
+fn agreement_outcomes() -> Vec<(&'static str, String)> {
+    let mut outcomes = Vec::new();
+    for &(call, said, told) in agreement::ANSWERS {
+        let told = told.iter().copied().flatten();
+        outcomes.extend(told.map(|near| (call, format!("{said}{near}"))));
+    }
+    outcomes
+}
+
 /// What the library wrote at each limit, held against what it wrote at each greater one, whatever the threshold; and the former against the usual.
 fn limit_outcomes() -> Vec<(&'static str, String)> {
     let lesser = |greater: u32| (1..greater).map(move |lesser| ([1, lesser], [1, greater]));
@@ -802,14 +865,16 @@ fn print_seen(seen: &Seen) -> usize {
     seen.values().sum()
 }
 
-/// Prints how often each outcome occurred, and each beside cranes or a list of which there is something to tell, and at two limits; the ones that did
-/// not occur often enough.
+/// Prints how often each outcome occurred, and each beside cranes, a list or an agreement of which there is something to tell, and at two limits; the
+/// ones that did not occur often enough.
 fn report(calls: &Calls) -> Vec<(&'static str, String)> {
     let total = print_seen(calls.seen());
     println!("of these beside cranes:");
     print_seen(calls.seen_beside_cranes());
     println!("of these beside lists:");
     print_seen(calls.seen_beside_lists());
+    println!("of these beside agreements:");
+    print_seen(calls.seen_beside_agreements());
     println!("what the library wrote at a limit, of what it wrote at a greater one:");
     let limits = print_seen(calls.seen_limits());
     println!("{total} calls, each as expected");
@@ -821,6 +886,7 @@ fn report(calls: &Calls) -> Vec<(&'static str, String)> {
         (calls.seen(), outcomes()),
         (calls.seen_beside_cranes(), crane_outcomes()),
         (calls.seen_beside_lists(), list_outcomes()),
+        (calls.seen_beside_agreements(), agreement_outcomes()),
         (calls.seen_limits(), limit_outcomes()),
     ] {
         let rare = |outcome: &_| seen.get(outcome).copied().unwrap_or(0) < TIMES;
@@ -863,6 +929,8 @@ fn run(calls: &mut Calls, seed: u64) {
     checks::of_named_settings(calls, random, 20);
     checks::damaged(calls, random, 1500);
     checks::largest(calls, random);
+    let drawings = with_cables(random);
+    agreements(calls, random, &drawings);
 }
 
 fn main() -> ExitCode {
@@ -880,6 +948,7 @@ fn main() -> ExitCode {
     }
     books::accepted(&mut calls);
     books::refused(&mut calls);
+    every_small_code(&mut calls);
 
     let missing = report(&calls);
     let unnoticed = calls.unnoticed();

@@ -1,9 +1,10 @@
 //! Tests of the tests: libraries that each spoil one kind of answer, in one byte, a count, a refusal or its drawing. A shim takes what the
 //! library returned and wrote, and changes it where its kind of answer is given; the comparison has to notice every one of them.
+use crate::agreement::{self, TIMES};
 use crate::answers;
 use crate::book;
 use crate::catalogue::{self, Codes, Entry, FORMER, USUAL};
-use crate::code;
+use crate::code::{self, Code, Record};
 use crate::cranes::{self, OLD_RECORD};
 use crate::drawing::{CRANE_AT, RECORD};
 use crate::lists::few_cables;
@@ -135,6 +136,35 @@ impl Came<'_> {
         }
     }
 
+    /// Of a call that tells how far two codes agree: the number of records, and what is decided, the order or the verdict.
+    fn agreement(&self) -> usize {
+        self.count() / TIMES
+    }
+
+    fn decided(&self) -> usize {
+        self.count() % TIMES
+    }
+
+    fn agree(&mut self, agreement: usize) {
+        if self.answered() {
+            *self.returned = (TIMES * agreement + self.decided()) as u64;
+        }
+    }
+
+    fn decide(&mut self, number: usize) {
+        if self.answered() {
+            *self.returned = (TIMES * self.agreement() + number) as u64;
+        }
+    }
+
+    /// Answers with another agreement of the two codes.
+    fn agree_by(&mut self, given: &Given, count: impl Fn(&Code, &Code) -> usize) {
+        if self.answered() {
+            let (first, second) = two_codes(given);
+            self.agree(count(&first, &second));
+        }
+    }
+
     /// Refuses what was answered.
     fn refuse(&mut self, number: u8, drawing: usize) {
         *self.returned = (drawing as u64 * 256 + u64::from(number)) << 32;
@@ -169,6 +199,99 @@ impl Came<'_> {
 }
 
 type Spoil = fn(&Given, &mut Came);
+
+/// The two codes whose agreement is told: those given, or the one given and the least of what it describes.
+fn two_codes(given: &Given) -> (Code, Code) {
+    let read = |bytes: &[u8]| code::read(bytes).expect("an accepted code");
+    let first = read(given.first);
+    let second = match given.call {
+        "is_least" => code::least(&code::described(&first)),
+        _ => read(given.second),
+    };
+    (first, second)
+}
+
+/// Mistakes that each call can make with an agreement.
+fn agreement_not_told(_: &Given, came: &mut Came) {
+    came.agree(0);
+}
+
+fn agreement_in_bytes(_: &Given, came: &mut Came) {
+    came.agree(code::RECORD * came.agreement());
+}
+
+fn agreement_in_front(_: &Given, came: &mut Came) {
+    if came.answered() {
+        *came.returned = (TIMES * came.decided() + came.agreement()) as u64;
+    }
+}
+
+fn agreement_of_four_bits(_: &Given, came: &mut Came) {
+    came.agree(came.agreement() & 15);
+}
+
+fn last_of_equal_passed_over(given: &Given, came: &mut Came) {
+    came.agree_by(given, |first, second| {
+        agreement::of(first, second) - usize::from(first == second)
+    });
+}
+
+fn parting_record_counted(given: &Given, came: &mut Came) {
+    came.agree_by(given, |first, second| {
+        let shorter = first.len().min(second.len());
+        shorter.min(agreement::of(first, second) + 1)
+    });
+}
+
+fn begun_record_counted(given: &Given, came: &mut Came) {
+    came.agree_by(given, |first, second| {
+        let (first, second) = (code::bytes(first), code::bytes(second));
+        let bytes = first.iter().zip(&second);
+        let alike = bytes.take_while(|(a, b)| a == b).count();
+        alike.div_ceil(code::RECORD)
+    });
+}
+
+fn later_records_counted(given: &Given, came: &mut Came) {
+    came.agree_by(given, |first, second| {
+        first.iter().zip(second).filter(|(a, b)| a == b).count()
+    });
+}
+
+fn records_left_counted(given: &Given, came: &mut Came) {
+    came.agree_by(given, |first, second| {
+        first.len() - agreement::of(first, second)
+    });
+}
+
+fn kinds_passed_over(given: &Given, came: &mut Came) {
+    came.agree_by(given, |first, second| {
+        let alike = |(a, b): &(&Record, &Record)| (a.i, a.j) == (b.i, b.j);
+        first.iter().zip(second).take_while(alike).count()
+    });
+}
+
+fn kind_of_j_passed_over(given: &Given, came: &mut Came) {
+    came.agree_by(given, |first, second| {
+        let alike = |(a, b): &(&Record, &Record)| (a.i, a.j, a.ki, a.c) == (b.i, b.j, b.ki, b.c);
+        first.iter().zip(second).take_while(alike).count()
+    });
+}
+
+fn lone_not_counted(given: &Given, came: &mut Came) {
+    if is_lone_code(given.first) {
+        came.agree(0);
+    }
+}
+
+/// The records before the one at fault.
+fn counted_though_refused(given: &Given, came: &mut Came) {
+    if [10, 11].contains(&came.refusal()) {
+        let refused = [given.first, given.second].map(|bytes| code::read(bytes).err());
+        let at = refused.into_iter().flatten().next().expect("a refusal").at;
+        *came.returned += (TIMES * at) as u64;
+    }
+}
 
 /// The bytes of the catalogue that other counts give an accepted survey.
 fn counted(survey: &[u8], threshold: u32, limit: u32, held: Count, written: Count) -> Vec<u8> {
@@ -526,13 +649,13 @@ pub const SHIMS: &[(&str, &str, Spoil)] = &[
         }
     }),
     ("is_least", "no for codes of ten devices", |given, came| {
-        if came.count() == 1 && given.first.chunks(5).any(|r| r[1] == 9) {
-            *came.returned = 0;
+        if given.first.chunks(5).any(|r| r.get(1) == Some(&9)) {
+            came.decide(0);
         }
     }),
     ("is_least", "no for lone devices", |given, came| {
-        if came.answered() && is_lone_code(given.first) {
-            *came.returned = 0;
+        if is_lone_code(given.first) {
+            came.decide(0);
         }
     }),
     ("is_least", "9 told as 10", |_, came| {
@@ -540,11 +663,113 @@ pub const SHIMS: &[(&str, &str, Spoil)] = &[
             came.set_refusal(10);
         }
     }),
+    (
+        "is_least",
+        "yes where all but the last record agree",
+        |given, came| {
+            if came.agreement() + 1 == given.first.len() / code::RECORD {
+                came.decide(1);
+            }
+        },
+    ),
+    ("is_least", "no agreement told", agreement_not_told),
+    ("is_least", "no agreement told with no", |_, came| {
+        if came.decided() == 0 {
+            came.agree(0);
+        }
+    }),
+    ("is_least", "all records told with no", |given, came| {
+        came.agree(given.first.len() / code::RECORD)
+    }),
+    ("is_least", "devices counted with yes", |given, came| {
+        if came.decided() == 1 {
+            came.agree_by(given, |first, _| code::described(first).devices());
+        }
+    }),
+    (
+        "is_least",
+        "agreement with the least from its own start",
+        |given, came| {
+            came.agree_by(given, |first, _| {
+                let own = code::least_from(&code::described(first), 0);
+                agreement::of(first, &own)
+            })
+        },
+    ),
+    (
+        "is_least",
+        "agreement with any code before it",
+        |given, came| {
+            if came.decided() == 0 {
+                came.agree_by(given, |first, _| {
+                    agreement::longest_before(first, &code::described(first))
+                });
+            }
+        },
+    ),
+    (
+        "is_least",
+        "agreement with the least from another start",
+        |given, came| {
+            came.agree_by(given, |first, _| {
+                let drawing = code::described(first);
+                let last = code::least_from(&drawing, drawing.devices() - 1);
+                agreement::of(first, &last)
+            })
+        },
+    ),
+    ("is_least", "agreement in bytes", agreement_in_bytes),
+    (
+        "is_least",
+        "agreement and verdict exchanged",
+        agreement_in_front,
+    ),
+    (
+        "is_least",
+        "agreement of 16 records or more told as of 16 fewer",
+        agreement_of_four_bits,
+    ),
+    (
+        "is_least",
+        "the last record of a least code passed over",
+        last_of_equal_passed_over,
+    ),
+    (
+        "is_least",
+        "the record counted on which they part",
+        parting_record_counted,
+    ),
+    (
+        "is_least",
+        "a record counted that begins alike",
+        begun_record_counted,
+    ),
+    (
+        "is_least",
+        "equal records counted behind the parting",
+        later_records_counted,
+    ),
+    (
+        "is_least",
+        "the records counted that are left",
+        records_left_counted,
+    ),
+    ("is_least", "kinds passed over", kinds_passed_over),
+    (
+        "is_least",
+        "the kind of j passed over",
+        kind_of_j_passed_over,
+    ),
+    ("is_least", "agreement 0 of lone devices", lone_not_counted),
+    (
+        "is_least",
+        "a count where a record is refused",
+        counted_though_refused,
+    ),
     ("compare", "a code that begins another", |given, came| {
         let shorter = given.first.len().min(given.second.len());
-        if came.answered() && came.count() != 0 && given.first[..shorter] == given.second[..shorter]
-        {
-            *came.returned = 3 - *came.returned;
+        if came.decided() != 0 && given.first[..shorter] == given.second[..shorter] {
+            came.decide(3 - came.decided());
         }
     }),
     (
@@ -556,7 +781,7 @@ pub const SHIMS: &[(&str, &str, Spoil)] = &[
                 && given.first.len() == given.second.len()
                 && given.first[..last] == given.second[..last]
             {
-                *came.returned = 0;
+                came.decide(0);
             }
         },
     ),
@@ -574,9 +799,121 @@ pub const SHIMS: &[(&str, &str, Spoil)] = &[
         "lone devices after codes with cables",
         |given, came| {
             if came.answered() && is_lone_code(given.first) != is_lone_code(given.second) {
-                *came.returned = 3 - *came.returned;
+                came.decide(3 - came.decided());
             }
         },
+    ),
+    (
+        "compare",
+        "equal where all records of the shorter agree",
+        |given, came| {
+            let shorter = given.first.len().min(given.second.len());
+            if came.agreement() == shorter / code::RECORD {
+                came.decide(0);
+            }
+        },
+    ),
+    (
+        "compare",
+        "before and after exchanged where no record agrees",
+        |_, came| {
+            if came.decided() != 0 && came.agreement() == 0 {
+                came.decide(3 - came.decided());
+            }
+        },
+    ),
+    ("compare", "no agreement told", agreement_not_told),
+    ("compare", "no agreement told with after", |_, came| {
+        if came.decided() == 2 {
+            came.agree(0);
+        }
+    }),
+    ("compare", "no agreement told with equal", |_, came| {
+        if came.decided() == 0 {
+            came.agree(0);
+        }
+    }),
+    (
+        "compare",
+        "all records counted of the longer that is begun",
+        |given, came| {
+            came.agree_by(given, |first, second| {
+                let agreement = agreement::of(first, second);
+                let begins = [first.len(), second.len()].contains(&agreement);
+                if begins {
+                    first.len().max(second.len())
+                } else {
+                    agreement
+                }
+            })
+        },
+    ),
+    (
+        "compare",
+        "one record fewer of a code that begins another",
+        |given, came| {
+            came.agree_by(given, |first, second| {
+                let begins = second.starts_with(first) || first.starts_with(second);
+                agreement::of(first, second) - usize::from(begins && first != second)
+            })
+        },
+    ),
+    (
+        "compare",
+        "the record 0, 0 counted of two lone devices",
+        |given, came| {
+            if is_lone_code(given.first) && is_lone_code(given.second) {
+                came.agree(1);
+            }
+        },
+    ),
+    ("compare", "agreement in bytes", agreement_in_bytes),
+    (
+        "compare",
+        "agreement and order exchanged",
+        agreement_in_front,
+    ),
+    (
+        "compare",
+        "agreement of 16 records or more told as of 16 fewer",
+        agreement_of_four_bits,
+    ),
+    (
+        "compare",
+        "the last record of equal codes passed over",
+        last_of_equal_passed_over,
+    ),
+    (
+        "compare",
+        "the record counted on which they part",
+        parting_record_counted,
+    ),
+    (
+        "compare",
+        "a record counted that begins alike",
+        begun_record_counted,
+    ),
+    (
+        "compare",
+        "equal records counted behind the parting",
+        later_records_counted,
+    ),
+    (
+        "compare",
+        "the records counted that are left of the first",
+        records_left_counted,
+    ),
+    ("compare", "kinds passed over", kinds_passed_over),
+    (
+        "compare",
+        "the kind of j passed over",
+        kind_of_j_passed_over,
+    ),
+    ("compare", "agreement 0 of lone devices", lone_not_counted),
+    (
+        "compare",
+        "a count where a record is refused",
+        counted_though_refused,
     ),
     ("match", "maps of ten devices", |_, came| {
         if came.answered() && came.count() == 10 {

@@ -1,5 +1,6 @@
 //! The calls that the program `vectors` makes, and what it has to print, both from the other implementation alone. What the
 //! paper or a published example says of a call stands with it and is asserted.
+mod agreement;
 mod book;
 mod checks;
 mod cranes;
@@ -14,6 +15,7 @@ mod published;
 #[cfg(test)]
 mod tests;
 
+use crate::agreement::TIMES;
 use crate::answers::{self, Answer};
 use crate::book::of_settings;
 use crate::catalogue::{self, Codes, Entry, ENTRY, FORMER, USUAL};
@@ -199,11 +201,13 @@ pub struct List {
     seen: BTreeSet<(&'static str, Seen)>,
     beside_cranes: BTreeSet<(&'static str, Seen)>,
     beside_lists: BTreeSet<(&'static str, Seen)>,
+    beside_agreements: BTreeSet<(&'static str, Seen)>,
     fetches: Vec<(Vec<u8>, usize)>,
+    agreements: Vec<(&'static str, [Vec<u8>; 2], Answer)>,
 }
 
 /// What a call may answer: something in a word, or a refusal and, if it is not the only or the first one's, whose; and what is lone
-/// about that which it comes from, or what there is to tell of cranes or of a list.
+/// about that which it comes from, or what there is to tell of cranes, of a list or of an agreement.
 #[derive(Clone, Copy, Debug, PartialEq, Eq, PartialOrd, Ord)]
 enum Seen {
     Answer(&'static str, &'static str),
@@ -261,11 +265,17 @@ impl List {
     }
 
     fn put_line(&mut self, name: &str, answer: &Answer) {
-        let refused = answer.refused;
-        self.text += &format!(
-            "{name} {} {} {}\n",
-            refused.number, refused.at, answer.count
-        );
+        self.put_numbers(name, answer, answer.refused.at, answer.count);
+    }
+
+    /// An agreement stands by itself, where a refusal has the record at fault.
+    fn put_agreeing(&mut self, name: &str, answer: &Answer) {
+        let (agreement, decided) = (answer.count / TIMES, answer.count % TIMES);
+        self.put_numbers(name, answer, answer.refused.at + agreement, decided);
+    }
+
+    fn put_numbers(&mut self, name: &str, answer: &Answer, at: usize, count: usize) {
+        self.text += &format!("{name} {} {at} {count}\n", answer.refused.number);
     }
 
     /// Lines as long as a catalogue's entry, of which the last is shorter and perhaps empty.
@@ -297,7 +307,11 @@ impl List {
                 .insert((parts.word, Seen::of(&answer, told)));
         }
         self.put_parts(&name, &parts);
-        self.put_line(&name, &answer);
+        if crate::agreement::CALLS.contains(&parts.word) {
+            self.put_agreeing(&name, &answer);
+        } else {
+            self.put_line(&name, &answer);
+        }
         if parts.lent.is_some() {
             self.put_bytes(&answer.output);
         }
@@ -319,6 +333,14 @@ impl List {
         self.seen.insert((call, Seen::of(answer, lone)));
         for told in told(&given, lent, answer) {
             self.beside_cranes.insert((call, Seen::of(answer, told)));
+        }
+        for told in crate::agreement::told(&given, answer) {
+            self.beside_agreements
+                .insert((call, Seen::of(answer, told)));
+        }
+        if crate::agreement::CALLS.contains(&call) {
+            let codes = [parts.first, parts.second].map(<[u8]>::to_vec);
+            self.agreements.push((call, codes, answer.clone()));
         }
     }
 
@@ -357,6 +379,7 @@ pub fn list() -> List {
     pairs::put(&mut list);
     cranes::put(&mut list);
     lists::put(&mut list);
+    agreement::put(&mut list);
     list.put_cut();
     list
 }

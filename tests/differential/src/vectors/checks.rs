@@ -1,5 +1,6 @@
 //! Calls in groups, with what is known of their answers.
 use super::{Call, List};
+use crate::agreement::TIMES;
 use crate::catalogue::{Entry, ENTRY};
 use crate::code;
 use crate::drawing::{Drawing, RECORD};
@@ -34,35 +35,37 @@ impl List {
         assert_eq!(answer.output[..answer.count], *wanted, "{name}");
     }
 
-    /// A DFS code is, or is not, the least code of what it describes.
-    pub fn put_verdict(&mut self, name: &str, code: &[u8], wanted: bool) {
-        self.put(name, Call::CheckCode(code));
-        self.put(name, Call::Decode(code, RECORD + MORE));
-        let answer = self.put(name, Call::IsLeast(code));
-        assert_eq!(
-            (answer.refused.number, answer.count),
-            (0, usize::from(wanted)),
-            "{name}"
-        );
+    /// What is said of two codes, or of one and the least of what it describes, and in how many records they agree.
+    pub(super) fn put_agreement(&mut self, name: &str, call: Call, said: &str, agreement: usize) {
+        let answer = self.put(name, call);
+        let told = (answer.said, answer.count / TIMES);
+        assert_eq!(told, (said, agreement), "{name}");
     }
 
-    /// The first code comes before the second.
-    pub fn put_order(&mut self, name: &str, first: &[u8], second: &[u8]) {
-        assert_eq!(
-            self.put(name, Call::Compare(first, second)).said,
-            "before",
-            "{name}"
-        );
-        assert_eq!(
-            self.put(name, Call::Compare(second, first)).said,
-            "after",
-            "{name}"
-        );
-        assert_eq!(
-            self.put(name, Call::Compare(first, first)).said,
-            "equal",
-            "{name}"
-        );
+    /// A DFS code is the least code of what it describes: it agrees with that in all records.
+    pub fn put_least(&mut self, name: &str, code: &[u8]) {
+        self.put_read(name, code);
+        let records = code.len() / code::RECORD;
+        self.put_agreement(name, Call::IsLeast(code), "yes", records);
+    }
+
+    /// It is not, and agrees with the least code in so many records.
+    pub fn put_not_least(&mut self, name: &str, code: &[u8], agreement: usize) {
+        self.put_read(name, code);
+        self.put_agreement(name, Call::IsLeast(code), "no", agreement);
+    }
+
+    fn put_read(&mut self, name: &str, code: &[u8]) {
+        self.put(name, Call::CheckCode(code));
+        self.put(name, Call::Decode(code, RECORD + MORE));
+    }
+
+    /// The first code comes before the second, and they agree in so many records.
+    pub fn put_order(&mut self, name: &str, first: &[u8], second: &[u8], agreement: usize) {
+        let records = first.len() / code::RECORD;
+        self.put_agreement(name, Call::Compare(first, second), "before", agreement);
+        self.put_agreement(name, Call::Compare(second, first), "after", agreement);
+        self.put_agreement(name, Call::Compare(first, first), "equal", records);
     }
 
     /// There are so many maps of a pattern into a drawing, and this is the least.

@@ -19,11 +19,11 @@ pub fn put(list: &mut List) {
         let record = drawing(kinds, cables);
         list.put(name, Call::CheckDrawing(&record));
         list.put_code(name, &record, &code(least));
-        list.put_verdict(name, &code(least), true);
+        list.put_least(name, &code(least));
     }
-    list.put_verdict("D8", &code("01151 02151"), false);
+    list.put_not_least("D8", &code("01151 02151"), 1);
     // Following one of several equal next cables ends so.
-    list.put_verdict("D5 ending in 03", &code("01151 12151 20151 03151"), false);
+    list.put_not_least("D5 ending in 03", &code("01151 12151 20151 03151"), 3);
     list.put_code(
         "triangle with two tails",
         &drawing("11111", "025 045 145 235 245"),

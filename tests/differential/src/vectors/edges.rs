@@ -137,25 +137,28 @@ fn put_codes(list: &mut List) {
     let answer = list.put("kind, then step", Call::Compare(&kind, &step));
     assert_eq!(answer.refused, Refused { number: 11, at: 1 });
     // A code that begins another comes before it; a cable kind counts before the kind of j.
-    list.put_order("begins the other", &code("01151"), &code("01151 12151"));
-    list.put_order("cable kind first", &code("01142"), &code("01151"));
-    list.put_order("kind of i first", &code("01159"), &code("01211"));
+    list.put_order("begins the other", &code("01151"), &code("01151 12151"), 1);
+    list.put_order("cable kind first", &code("01142"), &code("01151"), 0);
+    list.put_order("kind of i first", &code("01159"), &code("01211"), 0);
     list.put_order(
         "backward first",
         &code("01151 12151 20191"),
         &code("01151 12151 23151"),
+        2,
     );
     list.put_order(
         "back to the lower first",
         &code("01151 12151 23151 30191"),
         &code("01151 12151 23151 31151"),
+        3,
     );
     list.put_order(
         "forward from the higher first",
         &code("01151 12151 23159"),
         &code("01151 12151 13151"),
+        2,
     );
-    list.put_verdict("ten devices", &code(&path_of(9)), true);
+    list.put_least("ten devices", &code(&path_of(9)));
 }
 
 fn put_settings(list: &mut List, fine: &[u8]) {

@@ -39,7 +39,7 @@ fn put_drawing(list: &mut List, random: &mut Random, name: &str, drawing: &Drawi
         &format!("{name}, 99 bytes lent"),
         Call::CodeDrawing(&record, 99),
     );
-    list.put_verdict(name, &least, true);
+    list.put_least(name, &least);
     let any = code::bytes(&generate::any_code(random, drawing));
     list.put(&format!("{name}, some code"), Call::IsLeast(&any));
     list.put(&format!("{name}, some code"), Call::Compare(&least, &any));

@@ -22,16 +22,16 @@ fn put_codes(list: &mut List) {
     for (name, record, least) in lone_drawings() {
         list.put(name, Call::CheckDrawing(&record));
         list.put_code(name, &record, &least);
-        list.put_verdict(name, &least, true);
+        list.put_least(name, &least);
         let decoded = answers::decode(&least, &[0; RECORD]);
         assert_eq!(decoded.output, record, "{name}");
     }
     let [zero, seven, eight, greatest] = lone_drawings().map(|(_, _, least)| least);
-    list.put_order("lone 7 and 8", &seven, &eight);
-    list.put_order("lone 0 and 255", &zero, &greatest);
+    list.put_order("lone 7 and 8", &seven, &eight, 0);
+    list.put_order("lone 0 and 255", &zero, &greatest, 0);
     // The least of all codes with cables.
-    list.put_order("lone 255 and a cable", &greatest, &code("01000"));
-    list.put_order("lone 0 and D4", &zero, &code("01151 12151 20151"));
+    list.put_order("lone 255 and a cable", &greatest, &code("01000"), 0);
+    list.put_order("lone 0 and D4", &zero, &code("01151 12151 20151"), 0);
 }
 
 /// A record 0, 0 is a code only alone, without a cable kind, and with equal kinds.

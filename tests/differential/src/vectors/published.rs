@@ -22,19 +22,19 @@ fn put_canonical(list: &mut List) {
             list.put_same(&format!("000 {other} and {name}"), second, graph, true);
         }
     }
-    list.put_verdict("000 G1 canonical", &g1, true);
-    list.put_verdict("000 G2 not canonical", &g2, false);
-    list.put_verdict("000 G3 not canonical", &g3, false);
-    list.put_order("000 G1 before G2", &g1, &g2);
-    list.put_order("000 G1 before G3", &g1, &g3);
-    list.put_order("000 G3 before G2", &g3, &g2);
+    list.put_least("000 G1 canonical", &g1);
+    list.put_not_least("000 G2 not canonical", &g2, 1);
+    list.put_not_least("000 G3 not canonical", &g3, 3);
+    list.put_order("000 G1 before G2", &g1, &g2, 1);
+    list.put_order("000 G1 before G3", &g1, &g3, 3);
+    list.put_order("000 G3 before G2", &g3, &g2, 1);
 }
 
 /// 000, Canonicity Checking: the three steps end in this code.
 fn put_canonicity(list: &mut List) {
-    list.put_verdict("000 canonicity, step 1", &code("01a1a"), true);
-    list.put_verdict("000 canonicity, step 2", &code("01a1a 12a1b"), true);
-    list.put_verdict("000 canonicity, step 3", &code("01a1a 12a1b 20b1a"), true);
+    list.put_least("000 canonicity, step 1", &code("01a1a"));
+    list.put_least("000 canonicity, step 2", &code("01a1a 12a1b"));
+    list.put_least("000 canonicity, step 3", &code("01a1a 12a1b 20b1a"));
 }
 
 /// 000, Rightmost Path Extensions: devices 10 to 40 of G1 and 50 to 80 of G2 are 0 to 3 here, and every cable has kind 1. The
@@ -98,10 +98,10 @@ fn put_molecule(list: &mut List) {
     list.put_same("001 A and B", &a, &b, true);
     list.put_code("001 A", &a, &least);
     list.put_code("001 B", &b, &least);
-    list.put_verdict("001 least", &least, true);
+    list.put_least("001 least", &least);
 
     let word = "011-2 122-3 132-4 344-4 454-4 464=3 374-4 784-4 804-1";
-    list.put_verdict("001 A is a DFS code", &code(word), false);
+    list.put_not_least("001 A is a DFS code", &code(word), 5);
     put_word(list, word);
     let parts = Asked {
         survey: &survey(&[&a, &b]),

@@ -1,10 +1,12 @@
 //! Every call has every answer and every refusal that it can have, in each place of two and of a survey.
 use super::{List, Seen};
+use crate::agreement;
 use crate::answers::{self, Answer, FIRST, LATER, SECOND};
 use crate::cranes::*;
 use crate::drawing::{CRANE_AT, RECORD};
 use crate::lists;
 use crate::lone::*;
+use crate::shims::{Came, Given, SHIMS};
 use std::collections::BTreeSet;
 use std::sync::OnceLock;
 
@@ -286,6 +288,57 @@ fn every_outcome_beside_lists_is_listed() {
         missing.is_empty() && further.is_empty(),
         "{missing:?} {further:?}"
     );
+}
+
+/// Beside an agreement of every kind.
+#[test]
+fn every_outcome_beside_agreements_is_listed() {
+    let mut wanted = BTreeSet::new();
+    for &(call, said, told) in agreement::ANSWERS {
+        let told = told.iter().copied().flatten();
+        wanted.extend(told.map(|&near| (call, Seen::Answer(said, near))));
+    }
+    let list = list();
+    let missing: Vec<_> = wanted.difference(&list.beside_agreements).collect();
+    let further: Vec<_> = list.beside_agreements.difference(&wanted).collect();
+    assert!(
+        missing.is_empty() && further.is_empty(),
+        "{missing:?} {further:?}"
+    );
+}
+
+/// The number that a spoiled library returns in place of the answer.
+fn spoiled(spoil: fn(&Given, &mut Came), given: &Given, answer: &Answer) -> u64 {
+    let mut returned = answer.returned();
+    let came = &mut Came {
+        returned: &mut returned,
+        output: &mut [],
+        lent: &[],
+    };
+    spoil(given, came);
+    returned
+}
+
+/// The list alone shows every spoiled library of the calls that tell an agreement.
+#[test]
+fn spoiled_agreements_are_noticed() {
+    let list = list();
+    for &(call, spoiling, spoil) in SHIMS
+        .iter()
+        .filter(|shim| agreement::CALLS.contains(&shim.0))
+    {
+        let asked = list.agreements.iter().filter(|asked| asked.0 == call);
+        let mut shows = asked.map(|(call, [first, second], answer)| {
+            let given = Given {
+                call,
+                first,
+                second,
+                settings: &[],
+            };
+            spoiled(spoil, &given, answer) != answer.returned()
+        });
+        assert!(shows.any(|shows| shows), "{call}: {spoiling}");
+    }
 }
 
 /// What a wrong reader gives of a survey's drawing in place of its very bytes.

@@ -1,9 +1,7 @@
--- `compare::compare` meets its contract, place by place: the first code, the second, and their order. Assumes nothing.
-use mathlib.Core.Path.{_≡_, sym, _∙_}
+-- `compare::compare` meets its contract, place by place: the first code, the second, and both accepted. Assumes nothing.
+use mathlib.Core.Path.{sym, _∙_}
 use borrow.Author.Needs.{needs}
-use Rattle.code_records.specs.declared.«record».Order.{Order}
-use Rattle.comparing.specs.Comparing.{order-answer, Compare-says}
-use Rattle.comparing.specs.ComparingLaws.{compare-first, compare-second, compare-order}
+use Rattle.comparing.specs.ComparingLaws.{compare-first, compare-second, compare-accepted}
 use Rattle.comparing.proofs.compare.compare.Statement.{statement}
 use Rattle.comparing.proofs.compare.compare.Tie as tie
 
@@ -37,39 +35,15 @@ returns-2 c =
 enum-told-2 : tie.Need-enum-told-2
 enum-told-2 c = search needs
 
-order-of-codes-requires : tie.Need-order-of-codes-requires
-order-of-codes-requires c κs = search needs
-
-enum-told-3 : tie.Need-enum-told-3
-enum-told-3 c = search needs
-
-enum-told-4 : tie.Need-enum-told-4
-enum-told-4 c = search needs
-
-enum-told-5 : tie.Need-enum-told-5
-enum-told-5 c = search needs
-
-abbrev start : tie.After-order-of-codes → tie.Start
-start c = c .before .before .before .before .before .before .before .before .before
-
--- both codes are accepted, and their order is this
-ordered :
-    (c : tie.After-order-of-codes) (o : Order) → c .order-of-codes .result ≡ o
-    → Compare-says (start c .args .first .now) (start c .args .second .now) (order-answer o)
-ordered c o e =
-    let p = c .before .before .before .before in
-    let a = start c .args in
-    compare-order (a .first .now) (a .second .now) (sym (p .before .before .check-code .ensures) ∙ p .enum-told .given .1) o
-    (sym (c .before .before .before .check-code2 .ensures) ∙ c .before .enum-told2 .given .1) (sym (c .order-of-codes .ensures) ∙ e)
+codes-compared-requires : tie.Need-codes-compared-requires
+codes-compared-requires c κs = search needs
 
 returns-3 : tie.Need-returns-3
-returns-3 c = ordered (c .before .before) _ (c .enum-told3 .given .1)
-
-returns-4 : tie.Need-returns-4
-returns-4 c = ordered (c .before .before) _ (c .enum-told4 .given .1)
-
-returns-5 : tie.Need-returns-5
-returns-5 c = ordered (c .before .before) _ (c .enum-told5 .given .1)
+returns-3 c =
+    let p = c .before .before .before .before in
+    let s = p .before .before .before .before .before in
+    compare-accepted (s .args .first .now) (s .args .second .now) (sym (p .before .before .check-code .ensures) ∙ p .enum-told .given .1) _
+    (sym (c .before .before .before .check-code2 .ensures) ∙ c .before .enum-told2 .given .1) (c .codes-compared .ensures)
 
 pub compare-spec : {M : Type 1} → statement M
 compare-spec =
@@ -83,10 +57,5 @@ compare-spec =
     enum-known-r-2
     returns-2
     enum-told-2
-    order-of-codes-requires
-    enum-told-3
-    enum-told-4
-    enum-told-5
-    returns-3
-    returns-4
-    returns-5)
+    codes-compared-requires
+    returns-3)

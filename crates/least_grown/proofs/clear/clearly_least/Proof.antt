@@ -1,12 +1,13 @@
 -- `clear::clearly_least` meets its contract. Assumes nothing.
-use mathlib.Core.Path.{subst}
+use mathlib.Core.Path.{sym, subst}
 use mathlib.Core.Bool.{false≢true}
 use Prim.Native.Nat.{ℕ}
 use native.Mathlib.Omega.{arith}
 use borrow.Author.Needs.{needs}
 use borrow.Author.Tests.{not-true}
-use Rattle.codes.specs.Code.{Rec}
+use Rattle.codes.specs.Code.{Rec, code-records}
 use Rattle.codes.specs.CodeBytes.{accepted-code}
+use Rattle.least_seen.specs.Betters.{Some-start}
 use Rattle.least_test.specs.StartNumbers.{Numbers-labels}
 use Rattle.least_grown.specs.ClearlyLeast.{Starts-after, Some-parts}
 use Rattle.least_grown.specs.ClearlyLeastLaws.{no-start-before}
@@ -36,11 +37,12 @@ returns c e =
     let l = h .before in
     let s = l .before .before .before in
     let bs = s .args .code .now in
-    no-start-before bs (s .pre .0)
+    subst (λ (m : ℕ). Some-start (code-records bs) m → ⊥) (sym (s .pre .1))
+    (no-start-before bs (s .pre .0)
     (subst (λ (r : Rec). Numbers-labels r (l .labels-number .result)) (l .before .at .ensures) (l .labels-number .ensures))
     (subst (Starts-after bs (l .labels-number .result)) (s .pre .1) (h .starts-after .ensures .holds (c .before .if1 .taken)))
     (subst (λ (m : ℕ). Some-parts bs m → ⊥) (s .pre .1) (c .some-parts .ensures .fails (not-true (c .some-parts .result) e)))
-    (s .pre .2)
+    (s .pre .2))
 
 returns-2 : tie.Need-returns-2
 returns-2 c e = absurd (false≢true e)

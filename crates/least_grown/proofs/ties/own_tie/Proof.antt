@@ -4,7 +4,6 @@ use native.Mathlib.Omega.{arith}
 use borrow.Author.Count.{below-more}
 use borrow.Author.Needs.{needs}
 use Rattle.laws.specs.Decides.{decides-true, decides-false}
-use Rattle.codes.specs.CodeBytes.{accepted-code}
 use Rattle.least_grown.specs.OwnTies.{Tie-at}
 use Rattle.least_grown.proofs.ties.own_tie.Statement.{statement}
 use Rattle.least_grown.proofs.ties.own_tie.Tie as tie
@@ -18,13 +17,13 @@ abbrev μ-loop : tie.MeasureT-loop
 sub-k-end : tie.Need-sub-k-end Inv-loop μ-loop
 sub-k-end c =
     let s = c .before in
-    omega (arith, s .pre .records, accepted-code (s .args .code .now) (s .pre .tabled .accepted) .one)
+    omega (arith, s .pre .1)
 
 loop-holds : tie.Need-loop-holds Inv-loop μ-loop
 loop-holds c = (search needs, λ h l g. absurd (omega arith))
 
 tie-at-requires : tie.Need-tie-at-requires Inv-loop μ-loop
-tie-at-requires c κs = (c .before .before .before .pre, omega arith)
+tie-at-requires c κs = (c .before .before .before .pre .0, omega arith)
 
 returns : tie.Need-returns Inv-loop μ-loop
 returns c =

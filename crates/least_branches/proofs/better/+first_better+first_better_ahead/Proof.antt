@@ -1,27 +1,24 @@
--- `better::better` and `better::edge_better`, which call each other, meet their contracts. The measure: the records left,
--- twice, and one more before the next record is told to be forward. The loop's invariant: nothing better is seen by way of a
--- device below w, and every number given is taken back. Assumes nothing.
+-- `better::first_better` and `better::first_better_ahead`, which call each other, meet their contracts. The measure: the records left,
+-- twice, and one more before the next record is told to be forward. The loop's invariant: what the ways to devices below w tell, and
+-- every number given is taken back. Assumes nothing.
 use mathlib.Core.Path.{_≡_, sym, ap, _∙_, subst}
 use mathlib.Core.Bool.{Bool}
 use mathlib.Core.List.{List}
 use mathlib.Core.Logic.{⊎-elim}
 use Prim.Native.Nat.{ℕ, _+_, _*_, _-_, _^_, _≤_, _<_}
 use native.Mathlib.Omega.{arith}
-use native.Mathlib.Nat.{not-suc-le-zero}
 use lib.ListN.{length, getD}
-use borrow.Author.Count.{below-more}
 use borrow.Author.Needs.{needs}
 use borrow.Fn.Kinds.{In}
 use borrow.Fn.PlainCycle.{Measures, is, falls, and}
-use Rattle.laws.specs.Decides.{decides-true, decides-false}
 use Rattle.laws.specs.Rows.{row}
 use Rattle.codes.specs.Code.{rec-in}
+use Rattle.codes.specs.BranchState.{State}
 use Rattle.code_records.specs.declared.«record».Order.{Order}
 use Rattle.code_records.specs.declared.«record».Order.the-variants.{Before, Equal, After}
 use Rattle.branches.specs.Branches.{in-place, device-placed, Same-arrays}
 use Rattle.branches.specs.InPlaceLaws.{all-same, joined, given-place, taken-place}
-use Rattle.least_seen.specs.Betters.{Better-below}
-use Rattle.least_seen.specs.TestFollowLaws.{follows-end}
+use Rattle.least_seen.specs.Betters.{First-better}
 use Rattle.least_seen.specs.Accepting.{
   Chord-told,
   Free-label,
@@ -31,10 +28,6 @@ use Rattle.least_seen.specs.Accepting.{
   Test-goes-on,
 }
 use Rattle.least_seen.specs.AcceptedSteps.{
-  untouched,
-  not-taken,
-  kept,
-  taken-same,
   counted-free,
   wanted-label-some,
   Tried-way,
@@ -45,28 +38,34 @@ use Rattle.least_seen.specs.AcceptedSteps.{
   goes-marked,
   goes-room,
   back-on-path,
-  told-before,
-  told-after,
   chord-goes,
-  chord-tells,
-  chord-ends,
   front-on-path,
-  edge-before,
-  edge-lower,
   not-lower-way,
   edge-way-room,
   edge-goes,
-  edge-tells,
-  tried-way,
   twin-way,
-  edge-way-none,
 }
-use Rattle.least_branches.proofs.better.better.Reads as better
-use Rattle.least_branches.proofs.better.better.Kinds as better-kinds
-use Rattle.least_branches.proofs.better.+better+edge_better.Lts-better as better-lts
-use Rattle.least_branches.proofs.better.edge_better.Reads as edge-better
-use Rattle.least_branches.proofs.better.edge_better.Kinds as edge-better-kinds
-use Rattle.least_branches.proofs.better.+better+edge_better.Lts-edge_better as edge-better-lts
+use Rattle.least_seen.specs.FirstBetterLaws.{
+  first-ended,
+  goes-of,
+  first-chord-before,
+  first-chord-after,
+  first-chord-on,
+  first-edge-before,
+  first-edge-lower,
+  Ways-tried,
+  ways-begun,
+  ways-skipped,
+  ways-enough,
+  ways-followed,
+  ways-all,
+}
+use Rattle.least_branches.proofs.better.first_better.Reads as better
+use Rattle.least_branches.proofs.better.first_better.Kinds as better-kinds
+use Rattle.least_branches.proofs.better.+first_better+first_better_ahead.Lts-first_better as better-lts
+use Rattle.least_branches.proofs.better.first_better_ahead.Reads as ahead
+use Rattle.least_branches.proofs.better.first_better_ahead.Kinds as ahead-kinds
+use Rattle.least_branches.proofs.better.+first_better+first_better_ahead.Lts-first_better_ahead as ahead-lts
 use Rattle.least_seen.proofs.seen.chord_order.Reads as chord-order-reads
 use Rattle.branches.proofs.branch.device_at.Reads as device-at-reads
 use Rattle.branches.proofs.branch.give_number.Reads as give-number-reads
@@ -76,14 +75,14 @@ use Rattle.least_seen.proofs.seen.is_lower.Reads as is-lower-reads
 use Rattle.least_seen.proofs.seen.place_of.Reads as place-of-reads
 use Rattle.least_seen.proofs.seen.some_before.Reads as some-before-reads
 use Rattle.least_seen.proofs.seen.wanted_label.Reads as wanted-label-reads
-use Rattle.least_branches.proofs.better.+better+edge_better.{statement}
-use Rattle.least_branches.proofs.better.+better+edge_better.Tie.{close}
+use Rattle.least_branches.proofs.better.+first_better+first_better_ahead.{statement}
+use Rattle.least_branches.proofs.better.+first_better+first_better_ahead.Tie.{close}
 
 abbrev μ-better : Measures 6 better-kinds.ps ℕ
-μ-better κs a = 2 * (a .1 .1 .1 .0 - a .1 .1 .1 .1 .1 .0) + 1
+μ-better κs a = 2 * (a .1 .1 .1 .0 - a .1 .1 .1 .1 .1 .1 .0) + 1
 
-abbrev μ-edge-better : Measures 6 edge-better-kinds.ps ℕ
-μ-edge-better κs a = 2 * (a .1 .1 .1 .0 - a .1 .1 .1 .1 .1 .0)
+abbrev μ-ahead : Measures 6 ahead-kinds.ps ℕ
+μ-ahead κs a = 2 * (a .1 .1 .1 .0 - a .1 .1 .1 .1 .1 .1 .0)
 
 abbrev better-at : ℕ → In 6 better-kinds.ps
 better-at t = and 6 better-kinds.ps (is 6 better-kinds.ps μ-better t) better.Pre
@@ -91,18 +90,18 @@ better-at t = and 6 better-kinds.ps (is 6 better-kinds.ps μ-better t) better.Pr
 abbrev better-below : ℕ → In 6 better-kinds.ps
 better-below t = and 6 better-kinds.ps (falls 6 better-kinds.ps _<_ μ-better t) better.Pre
 
-abbrev edge-better-at : ℕ → In 6 edge-better-kinds.ps
-edge-better-at t =
-    and 6 edge-better-kinds.ps (is 6 edge-better-kinds.ps μ-edge-better t) edge-better.Pre
+abbrev ahead-at : ℕ → In 6 ahead-kinds.ps
+ahead-at t =
+    and 6 ahead-kinds.ps (is 6 ahead-kinds.ps μ-ahead t) ahead.Pre
 
-abbrev edge-better-below : ℕ → In 6 edge-better-kinds.ps
-edge-better-below t =
-    and 6 edge-better-kinds.ps (falls 6 edge-better-kinds.ps _<_ μ-edge-better t) edge-better.Pre
+abbrev ahead-below : ℕ → In 6 ahead-kinds.ps
+ahead-below t =
+    and 6 ahead-kinds.ps (falls 6 ahead-kinds.ps _<_ μ-ahead t) ahead.Pre
 
 abbrev better-claims : ℕ → better-lts.Claims
 better-claims t = (
-  edge-better-below t,
-  edge-better.Post,
+  ahead-below t,
+  ahead.Post,
   place-of-reads.Asked,
   place-of-reads.Learnt,
   wanted-label-reads.Asked,
@@ -120,7 +119,7 @@ more :
     a .t < a .m
 more t c =
     let p = c .before .before .pre .1 .0 in
-    omega (arith, p .follows .within, p .counted .records, c .if1 .left)
+    omega (arith, p .low, c .if1 .left)
 
 slice-low : (t : ℕ) (c : better-lts.Else1 (better-claims t) (better-at t) better.Post) → length (c .before .before .args .code .now) < 2 ^ 64
 slice-low t c = search needs
@@ -149,10 +148,10 @@ told t c o e =
 better-returns :
     (t : ℕ) → better-lts.Need-returns (better-claims t) (better-at t) better.Post
 better-returns t c =
-    let p = c .before .before .pre .1 .0 in (
-      decides-false (follows-end (p .follows) (omega (arith, c .if1 .taken, p .counted .records))),
-      untouched,
-    )
+    let a = c .before .before .args in
+    let last : a .m ≤ a .t = omega (arith, c .if1 .taken) in
+    let b = in-place (a .numbers .now) (a .used .now) (a .path .now) (a .count) (a .given) (a .low) in
+    (first-ended (a .code .now) (a .m) (a .enough) (a .t) b last, all-same)
 
 better-mul-i :
     (t : ℕ) → better-lts.Need-mul-i (better-claims t) (better-at t) better.Post
@@ -177,16 +176,16 @@ better-shared-slice-read-j :
     (t : ℕ) → better-lts.Need-shared-slice-read-j (better-claims t) (better-at t) better.Post
 better-shared-slice-read-j t c = omega (arith, goes-room (c .before .before .before .before .pre .1 .0) (more t (c .before .before)))
 
-better-edge-better-requires :
-    (t : ℕ) → better-lts.Need-edge-better-requires (better-claims t) (better-at t) better.Post
-better-edge-better-requires t c κs =
+better-ahead-requires :
+    (t : ℕ) → better-lts.Need-first-better-ahead-requires (better-claims t) (better-at t) better.Post
+better-ahead-requires t c κs =
     let s = c .before .before .before .before .before .before .before .before in
     let h = more t (c .before .before .before .before .before .before) in
     (omega (arith, s .pre .0), (record { goes = s .pre .1 .0; more = h; ahead = c .before .before .before .if2 .taken }, s .pre .1 .1))
 
 better-returns-2 :
     (t : ℕ) → better-lts.Need-returns-2 (better-claims t) (better-at t) better.Post
-better-returns-2 t c = c .edge-better .ensures
+better-returns-2 t c = c .first-better-ahead .ensures
 
 better-place-of-requires :
     (t : ℕ) → better-lts.Need-place-of-requires (better-claims t) (better-at t) better.Post
@@ -216,7 +215,7 @@ better-enum-told-2 :
 better-enum-told-2 t c = search needs
 
 better-add-better :
-    (t : ℕ) → better-lts.Need-add-better (better-claims t) (better-at t) better.Post
+    (t : ℕ) → better-lts.Need-add-first-better (better-claims t) (better-at t) better.Post
 better-add-better t c =
     omega (
       arith,
@@ -227,7 +226,7 @@ better-add-better t c =
     )
 
 better-cast-better :
-    (t : ℕ) → better-lts.Need-cast-better (better-claims t) (better-at t) better.Post
+    (t : ℕ) → better-lts.Need-cast-first-better (better-claims t) (better-at t) better.Post
 better-cast-better t c =
     let q = c .before .before .before .before .before .before .before .before .before .place-of .ensures in
     omega (
@@ -238,7 +237,7 @@ better-cast-better t c =
     )
 
 better-add-better-2 :
-    (t : ℕ) → better-lts.Need-add-better-2 (better-claims t) (better-at t) better.Post
+    (t : ℕ) → better-lts.Need-add-first-better-2 (better-claims t) (better-at t) better.Post
 better-add-better-2 t c =
     let q = c .before .before .before .before .before .before .before .before .before .place-of .ensures in
     omega (
@@ -249,7 +248,7 @@ better-add-better-2 t c =
     )
 
 better-better-requires :
-    (t : ℕ) → better-lts.Need-better-requires (better-claims t) (better-at t) better.Post
+    (t : ℕ) → better-lts.Need-first-better-requires (better-claims t) (better-at t) better.Post
 better-better-requires t c κs =
     let k = c .before .before .before .before .before in (
       omega (
@@ -277,48 +276,41 @@ better-returns-3 :
     (t : ℕ) → better-lts.Need-returns-3 (better-claims t) (better-at t) better.Post
 better-returns-3 t c =
     let k = c .before .before in (
-      decides-true (told-before (k .before .before .before .before .before .before .before .before .before .before .before .pre .1 .0)
+      (first-chord-before (k .before .before .before .before .before .before .before .before .before .before .before .pre .1 .0)
           (more t (k .before .before .before .before .before .before .before .before .before))
           (back t (k .before .before .before .before .before .before)) (k .before .before .before .before .place-of .result)
           (k .before .before .before .before .place-of .ensures .0)
           (k .before .before .before .before .place-of .ensures .1) (k .before .wanted-label .ensures .1) (told t k Before (c .enum-told .given .1))),
-      not-taken,
+      all-same,
     )
 
 better-returns-4 :
     (t : ℕ) → better-lts.Need-returns-4 (better-claims t) (better-at t) better.Post
 better-returns-4 t c =
-    let k = c .before .before .before .before .before .before in
-    let o = told t k Equal (c .before .before .before .before .enum-told2 .given .1) in (
-      record {
-        holds = λ e. chord-tells (k .before .before .before .before .before .before .before .before .before .before .before .pre .1 .0)
-            (more t (k .before .before .before .before .before .before .before .before .before))
-            (back t (k .before .before .before .before .before .before)) (k .before .before .before .before .place-of .result)
-            (k .before .before .before .before .place-of .ensures .0)
-            (k .before .before .before .before .place-of .ensures .1) (k .before .wanted-label .ensures .1) o (c .better .ensures .0 .holds e);
-        fails = λ e. chord-ends (k .before .before .before .before .before .before .before .before .before .before .before .pre .1 .0)
-            (more t (k .before .before .before .before .before .before .before .before .before))
-            (back t (k .before .before .before .before .before .before)) (k .before .before .before .before .place-of .result)
-            (k .before .before .before .before .place-of .ensures .0)
-            (k .before .before .before .before .place-of .ensures .1) (k .before .wanted-label .ensures .1) o (c .better .ensures .0 .fails e);
-      },
-      c .better .ensures .1,
+    let k = c .before .before .before .before .before .before in (
+      first-chord-on (k .before .before .before .before .before .before .before .before .before .before .before .pre .1 .0)
+          (more t (k .before .before .before .before .before .before .before .before .before))
+          (back t (k .before .before .before .before .before .before)) (k .before .before .before .before .place-of .result)
+          (k .before .before .before .before .place-of .ensures .0)
+          (k .before .before .before .before .place-of .ensures .1) (k .before .wanted-label .ensures .1)
+          (told t k Equal (c .before .before .before .before .enum-told2 .given .1)) (c .first-better .ensures .0),
+      c .first-better .ensures .1,
     )
 
 better-returns-5 :
     (t : ℕ) → better-lts.Need-returns-5 (better-claims t) (better-at t) better.Post
 better-returns-5 t c =
     let k = c .before .before in (
-      decides-false (told-after (k .before .before .before .before .before .before .before .before .before .before .before .pre .1 .0)
+      (first-chord-after (k .before .before .before .before .before .before .before .before .before .before .before .pre .1 .0)
           (more t (k .before .before .before .before .before .before .before .before .before))
           (back t (k .before .before .before .before .before .before)) (k .before .before .before .before .place-of .result)
           (k .before .before .before .before .place-of .ensures .0)
           (k .before .before .before .before .place-of .ensures .1) (k .before .wanted-label .ensures .1) (told t k After (c .enum-told3 .given .1))),
-      untouched,
+      all-same,
     )
 
-abbrev edge-claims : ℕ → edge-better-lts.Claims
-edge-claims t = (
+abbrev ahead-claims : ℕ → ahead-lts.Claims
+ahead-claims t = (
   wanted-label-reads.Asked,
   wanted-label-reads.Learnt,
   place-of-reads.Asked,
@@ -339,34 +331,34 @@ edge-claims t = (
   take-number-reads.Learnt,
 )
 
-abbrev edge-better-Inv-loop : edge-better-lts.InvT-loop
-edge-better-Inv-loop table twins code m n t numbers₀ used₀ path₀ count given low wanted q from w₀ numbers used path w =
+abbrev ahead-Inv-loop : ahead-lts.InvT-loop
+ahead-Inv-loop table twins code m enough n t numbers₀ used₀ path₀ count given low wanted q from bound₀ w₀ numbers used path bound w =
     (w ≤ n) × Same-arrays numbers₀ numbers used₀ used path₀ path
-    × ((v : ℕ) → v < w → Tried-way table code t (in-place numbers₀ used₀ path₀ count given low) q v)
+    × Ways-tried table code m t (in-place numbers₀ used₀ path₀ count given low) q bound w
 
-abbrev edge-better-μ-loop : edge-better-lts.MeasureT-loop
-edge-better-μ-loop table twins code m n t numbers₀ used₀ path₀ count given low wanted q from w₀ numbers used path w = n - w
+abbrev ahead-μ-loop : ahead-lts.MeasureT-loop
+ahead-μ-loop table twins code m enough n t numbers₀ used₀ path₀ count given low wanted q from bound₀ w₀ numbers used path bound w = n - w
 
 -- WHERE IT IS FORWARD
-edge-slice-low : (t : ℕ) (c : edge-better-lts.After-shared-slice-known (edge-claims t)
-    (edge-better-at t) edge-better.Post edge-better-Inv-loop edge-better-μ-loop) → length (c .before .args .code .now) < 2 ^ 64
-edge-slice-low t c = search needs
+ahead-slice-low : (t : ℕ) (c : ahead-lts.After-shared-slice-known (ahead-claims t)
+    (ahead-at t) ahead.Post ahead-Inv-loop ahead-μ-loop) → length (c .before .args .code .now) < 2 ^ 64
+ahead-slice-low t c = search needs
 
 byte :
-    (t : ℕ) (c : edge-better-lts.After-place-of (edge-claims t) (edge-better-at t) edge-better.Post edge-better-Inv-loop edge-better-μ-loop)
+    (t : ℕ) (c : ahead-lts.After-place-of (ahead-claims t) (ahead-at t) ahead.Post ahead-Inv-loop ahead-μ-loop)
     → let a = c .before .before .before .before .before .args in
     rec-in (row 5 (a .t) (a .code .now)) .kj < 256
 byte t c = c .before .before .before .wanted-label .ensures .1
 
 -- a device of the drawing in the loop, and its label
 low-way :
-    (t : ℕ) (c : edge-better-lts.After-counted-label (edge-claims t) (edge-better-at t) edge-better.Post edge-better-Inv-loop edge-better-μ-loop)
+    (t : ℕ) (c : ahead-lts.After-counted-label (ahead-claims t) (ahead-at t) ahead.Post ahead-Inv-loop ahead-μ-loop)
     → c .before .before .before .loop .w < c .before .before .before .before .before .before .before .before .before .before .before .before
     .before .before .before .before .before .args .n
 low-way t c = omega (arith, c .before .before .loop-test .taken)
 
 counted-at :
-    (t : ℕ) (c : edge-better-lts.After-counted-label (edge-claims t) (edge-better-at t) edge-better.Post edge-better-Inv-loop edge-better-μ-loop)
+    (t : ℕ) (c : ahead-lts.After-counted-label (ahead-claims t) (ahead-at t) ahead.Post ahead-Inv-loop ahead-μ-loop)
     → let a = c .before .before .before .before .before .before .before .before .before .before .before .before .before .before .before
     .before .before .args in
     Counted-label (a .table .now) (a .used .now) (device-placed (a .numbers .now) (a .path .now)
@@ -383,7 +375,7 @@ counted-at t c =
 
 -- the label wanted is found
 own :
-    (t : ℕ) (c : edge-better-lts.Then3 (edge-claims t) (edge-better-at t) edge-better.Post edge-better-Inv-loop edge-better-μ-loop)
+    (t : ℕ) (c : ahead-lts.Then3 (ahead-claims t) (ahead-at t) ahead.Post ahead-Inv-loop ahead-μ-loop)
     → let a = c .before .before .before .before .before .before .before .before .before .before .before .before .before .before .before
     .before .before .before .before .before .args in
     c .before .before .before .counted-label .result ≡ wanted-label (a .code .now) (a .t)
@@ -391,7 +383,7 @@ own t c = c .if3 .taken ∙ c .before .before .before .before .before .before .b
     .before .before .before .before .wanted-label .ensures .0
 
 tied-at :
-    (t : ℕ) (c : edge-better-lts.Then3 (edge-claims t) (edge-better-at t) edge-better.Post edge-better-Inv-loop edge-better-μ-loop)
+    (t : ℕ) (c : ahead-lts.Then3 (ahead-claims t) (ahead-at t) ahead.Post ahead-Inv-loop ahead-μ-loop)
     → let f = c .before .before .before in
     let a = f .before .before .before .before .before .before .before .before .before .before .before .before .before .before .before .before
     .before .args in
@@ -406,7 +398,7 @@ tied-at t c =
 
 -- there is room for its number
 room :
-    (t : ℕ) (c : edge-better-lts.Then3 (edge-claims t) (edge-better-at t) edge-better.Post edge-better-Inv-loop edge-better-μ-loop)
+    (t : ℕ) (c : ahead-lts.Then3 (ahead-claims t) (ahead-at t) ahead.Post ahead-Inv-loop ahead-μ-loop)
     → let k = c .before .before .before .before .before .before .before .before .before .before .before .before .before .before .before in
     (k .before .before .before .before .before .args .given < 10)
     × (k .place-of .result < 9)
@@ -421,59 +413,103 @@ room t c =
     in
     (given, omega (arith, given, k .place-of .ensures .0, goes-below (p .goes)), omega (arith, low-way t f, goes-marked (p .goes) .low))
 
-edge-better-wanted-label-requires :
-    (t : ℕ) → edge-better-lts.Need-wanted-label-requires (edge-claims t) (edge-better-at t) edge-better.Post edge-better-Inv-loop edge-better-μ-loop
-edge-better-wanted-label-requires t c κs = goes-room (c .before .pre .1 .0 .goes) (c .before .pre .1 .0 .more)
+-- the branch, of as many records as the ways so far have left
+lowered :
+    (t : ℕ) (c : ahead-lts.Then3 (ahead-claims t) (ahead-at t) ahead.Post ahead-Inv-loop ahead-μ-loop)
+    → let l = c .before .before .before .before .before .before .loop in
+    let k = c .before .before .before .before .before .before .before .before .before .before .before .before .before .before .before in
+    let a = k .before .before .before .before .before .args in
+    Test-goes-on (a .table .now) (a .code .now) (l .bound) (a .n) (a .t)
+    (in-place (a .numbers .now) (a .used .now) (a .path .now) (a .count) (a .given) (a .low))
+lowered t c =
+    let l = c .before .before .before .before .before .before .loop in
+    let k = c .before .before .before .before .before .before .before .before .before .before .before .before .before .before .before in
+    let p = k .before .before .before .before .before .pre .1 .0 in
+    goes-of (p .goes) (l .bound) (omega (arith, l .inv .2 .left)) (l .inv .2 .within)
 
-edge-better-mul-place-of :
-    (t : ℕ) → edge-better-lts.Need-mul-place-of (edge-claims t) (edge-better-at t) edge-better.Post edge-better-Inv-loop edge-better-μ-loop
-edge-better-mul-place-of t c =
+-- a device without the label wanted is passed over: its label is not lower, or a twin stands for it
+passed :
+    (t : ℕ) (c : ahead-lts.Joined3 (ahead-claims t) (ahead-at t) ahead.Post ahead-Inv-loop ahead-μ-loop)
+    → let f = c .before .before .before in
+    let k = c .before .before .before .before .before .before .before .before .before .before .before .before .before .before .before in
+    let l = f .before .before .before .loop in
+    let a = k .before .before .before .before .before .args in
+    (f .counted-label .result ≡ k .before .before .before .wanted-label .result → ⊥)
+    → Tried-way (a .table .now) (a .code .now) (l .bound) (a .t)
+    (in-place (a .numbers .now) (a .used .now) (a .path .now) (a .count) (a .given) (a .low)) (k .place-of .result) (l .w)
+passed t c other =
+    let k = c .before .before .before .before .before .before .before .before .before .before .before .before .before .before .before in
+    let f = c .before .before .before in
+    let l = f .before .before .before .loop in
+    let p = k .before .before .before .before .before .pre .1 .0 in
+    let G = goes-of (p .goes) (l .bound) (omega (arith, l .inv .2 .left)) (l .inv .2 .within) in
+    let wanted = k .before .before .before .wanted-label .ensures .0 in
+    ⊎-elim
+    (λ y.
+    not-lower-way G (l .inv .2 .left) (p .ahead) (k .place-of .result) (k .place-of .ensures .0) (k .place-of .ensures .1) (byte t k)
+    (l .w) (low-way t f) y
+    (λ m. c .before .before .is-lower .ensures .fails (c .before .if2 .left) (subst (Lower (f .counted-label .result)) (sym wanted) m))
+    (λ e. other (e ∙ sym wanted)))
+    (λ y.
+    twin-way G (l .inv .2 .left) (p .ahead) (k .place-of .result) (k .place-of .ensures .0) (k .place-of .ensures .1) (byte t k)
+    (l .w) (low-way t f) (y .1) (l .inv .2 .tried))
+    (counted-at t f)
+
+ahead-wanted-label-requires :
+    (t : ℕ) → ahead-lts.Need-wanted-label-requires (ahead-claims t) (ahead-at t) ahead.Post ahead-Inv-loop ahead-μ-loop
+ahead-wanted-label-requires t c κs = goes-room (c .before .pre .1 .0 .goes) (c .before .pre .1 .0 .more)
+
+ahead-mul-place-of :
+    (t : ℕ) → ahead-lts.Need-mul-place-of (ahead-claims t) (ahead-at t) ahead.Post ahead-Inv-loop ahead-μ-loop
+ahead-mul-place-of t c =
     let p = c .before .before .before .pre .1 .0 in
-    omega (arith, goes-room (p .goes) (p .more), edge-slice-low t (c .before .before))
+    omega (arith, goes-room (p .goes) (p .more), ahead-slice-low t (c .before .before))
 
-edge-better-shared-slice-read-place-of :
-    (t : ℕ) → edge-better-lts.Need-shared-slice-read-place-of (edge-claims t)
-    (edge-better-at t) edge-better.Post edge-better-Inv-loop edge-better-μ-loop
-edge-better-shared-slice-read-place-of t c =
+ahead-shared-slice-read-place-of :
+    (t : ℕ) → ahead-lts.Need-shared-slice-read-place-of (ahead-claims t)
+    (ahead-at t) ahead.Post ahead-Inv-loop ahead-μ-loop
+ahead-shared-slice-read-place-of t c =
     let p = c .before .before .before .before .pre .1 .0 in
     omega (arith, goes-room (p .goes) (p .more))
 
-edge-better-place-of-requires :
-    (t : ℕ) → edge-better-lts.Need-place-of-requires (edge-claims t) (edge-better-at t) edge-better.Post edge-better-Inv-loop edge-better-μ-loop
-edge-better-place-of-requires t c κs =
+ahead-place-of-requires :
+    (t : ℕ) → ahead-lts.Need-place-of-requires (ahead-claims t) (ahead-at t) ahead.Post ahead-Inv-loop ahead-μ-loop
+ahead-place-of-requires t c κs =
     let p = c .before .before .before .before .pre .1 .0 in
     (goes-count (p .goes), front-on-path (p .goes) (p .more) (p .ahead))
 
-edge-better-some-before-requires :
-    (t : ℕ) → edge-better-lts.Need-some-before-requires (edge-claims t) (edge-better-at t) edge-better.Post edge-better-Inv-loop edge-better-μ-loop
-edge-better-some-before-requires t c κs =
+ahead-some-before-requires :
+    (t : ℕ) → ahead-lts.Need-some-before-requires (ahead-claims t) (ahead-at t) ahead.Post ahead-Inv-loop ahead-μ-loop
+ahead-some-before-requires t c κs =
     let p = c .before .before .before .before .before .before .before .before .pre .1 .0 .goes in
     (goes-two p, c .before .before .before .place-of .ensures .0, goes-places p, goes-marked p)
 
-edge-better-returns :
-    (t : ℕ) → edge-better-lts.Need-returns (edge-claims t) (edge-better-at t) edge-better.Post edge-better-Inv-loop edge-better-μ-loop
-edge-better-returns t c =
+ahead-returns :
+    (t : ℕ) → ahead-lts.Need-returns (ahead-claims t) (ahead-at t) ahead.Post ahead-Inv-loop ahead-μ-loop
+ahead-returns t c =
     let k = c .before .before .before .before .before in
     let p = k .before .before .before .before .before .pre .1 .0 in (
-      decides-true (edge-before (p .goes) (p .more) (p .ahead) (k .place-of .result) (k .place-of .ensures .0) (k .place-of .ensures .1)
-          (c .before .some-before .ensures .holds (c .if1 .taken))),
-      not-taken,
+      first-edge-before (p .goes) (p .more) (p .ahead) (k .place-of .result) (k .place-of .ensures .0) (k .place-of .ensures .1)
+          (c .before .some-before .ensures .holds (c .if1 .taken)),
+      all-same,
     )
 
-edge-better-device-at-requires :
-    (t : ℕ) → edge-better-lts.Need-device-at-requires (edge-claims t) (edge-better-at t) edge-better.Post edge-better-Inv-loop edge-better-μ-loop
-edge-better-device-at-requires t c κs =
+ahead-device-at-requires :
+    (t : ℕ) → ahead-lts.Need-device-at-requires (ahead-claims t) (ahead-at t) ahead.Post ahead-Inv-loop ahead-μ-loop
+ahead-device-at-requires t c κs =
     let p = goes-places (c .before .before .before .before .before .before .before .before .before .before .before .before .pre .1 .0 .goes) in
     let h = c .before .before .before .before .before .before .before .place-of .ensures .0 in
     (omega (arith, p .count-low, h), p .on-path _ h, p .lands _ h)
 
-edge-better-loop-holds :
-    (t : ℕ) → edge-better-lts.Need-loop-holds (edge-claims t) (edge-better-at t) edge-better.Post edge-better-Inv-loop edge-better-μ-loop
-edge-better-loop-holds t c = (search needs, all-same, λ v h. absurd (not-suc-le-zero h))
+ahead-loop-holds :
+    (t : ℕ) → ahead-lts.Need-loop-holds (ahead-claims t) (ahead-at t) ahead.Post ahead-Inv-loop ahead-μ-loop
+ahead-loop-holds t c =
+    let p = c .before .before .before .before .before .before .before .before .before .before .before .before .before .pre .1 .0 in
+    (search needs, all-same, ways-begun (p .more))
 
-edge-better-counted-label-requires :
-    (t : ℕ) → edge-better-lts.Need-counted-label-requires (edge-claims t) (edge-better-at t) edge-better.Post edge-better-Inv-loop edge-better-μ-loop
-edge-better-counted-label-requires t c κs =
+ahead-counted-label-requires :
+    (t : ℕ) → ahead-lts.Need-counted-label-requires (ahead-claims t) (ahead-at t) ahead.Post ahead-Inv-loop ahead-μ-loop
+ahead-counted-label-requires t c κs =
     let d = goes-marked (c .before .before .before .before .before .before .before .before .before .before .before .before .before .before
     .before .before .pre .1 .0 .goes) in
     let l = c .before .before .loop in (
@@ -484,159 +520,153 @@ edge-better-counted-label-requires t c κs =
           .pre .1 .1,
     )
 
-edge-better-is-lower-requires :
-    (t : ℕ) → edge-better-lts.Need-is-lower-requires (edge-claims t) (edge-better-at t) edge-better.Post edge-better-Inv-loop edge-better-μ-loop
-edge-better-is-lower-requires t c κs = search needs
+ahead-is-lower-requires :
+    (t : ℕ) → ahead-lts.Need-is-lower-requires (ahead-claims t) (ahead-at t) ahead.Post ahead-Inv-loop ahead-μ-loop
+ahead-is-lower-requires t c κs = search needs
 
-edge-better-returns-2 :
-    (t : ℕ) → edge-better-lts.Need-returns-2 (edge-claims t) (edge-better-at t) edge-better.Post edge-better-Inv-loop edge-better-μ-loop
-edge-better-returns-2 t c =
+ahead-returns-2 :
+    (t : ℕ) → ahead-lts.Need-returns-2 (ahead-claims t) (ahead-at t) ahead.Post ahead-Inv-loop ahead-μ-loop
+ahead-returns-2 t c =
     let k = c .before .before .before .before .before .before .before .before .before .before .before .before .before .before in
     let f = c .before .before in
     let p = k .before .before .before .before .before .pre .1 .0 in
     let lower = c .before .is-lower .ensures .holds (c .if2 .taken) in (
-      decides-true (edge-lower (p .goes) (p .more) (p .ahead) (k .place-of .result) (k .place-of .ensures .0) (k .place-of .ensures .1)
+      (first-edge-lower (p .goes) (p .more) (p .ahead) (k .place-of .result) (k .place-of .ensures .0) (k .place-of .ensures .1)
           (byte t k) (f .before .before .before .loop .w) (low-way t f) (counted-free (counted-at t f) (lower .0))
           (subst (Lower (f .counted-label .result)) (k .before .before .before .wanted-label .ensures .0) lower)),
-      not-taken,
+      f .before .before .before .loop .inv .1,
     )
 
-edge-better-give-number-requires :
-    (t : ℕ) → edge-better-lts.Need-give-number-requires (edge-claims t) (edge-better-at t) edge-better.Post edge-better-Inv-loop edge-better-μ-loop
-edge-better-give-number-requires t c κs = room t (c .before .before .before)
+ahead-give-number-requires :
+    (t : ℕ) → ahead-lts.Need-give-number-requires (ahead-claims t) (ahead-at t) ahead.Post ahead-Inv-loop ahead-μ-loop
+ahead-give-number-requires t c κs = room t (c .before .before .before)
 
-edge-better-add-better :
-    (t : ℕ) → edge-better-lts.Need-add-better (edge-claims t) (edge-better-at t) edge-better.Post edge-better-Inv-loop edge-better-μ-loop
-edge-better-add-better t c =
+ahead-add-better :
+    (t : ℕ) → ahead-lts.Need-add-first-better (ahead-claims t) (ahead-at t) ahead.Post ahead-Inv-loop ahead-μ-loop
+ahead-add-better t c =
     let k = c .before .before .before .before .before .before .before .before .before .before .before .before .before .before .before
     .before .before .before .before in
     let p = k .before .before .before .before .before .pre .1 .0 in
-    omega (arith, goes-room (p .goes) (p .more), edge-slice-low t (k .before .before .before .before))
+    omega (arith, goes-room (p .goes) (p .more), ahead-slice-low t (k .before .before .before .before))
 
-edge-better-add-better-2 :
-    (t : ℕ) → edge-better-lts.Need-add-better-2 (edge-claims t) (edge-better-at t) edge-better.Post edge-better-Inv-loop edge-better-μ-loop
-edge-better-add-better-2 t c = omega (arith, room t (c .before .before .before .before .before .before .before))
+ahead-add-better-2 :
+    (t : ℕ) → ahead-lts.Need-add-first-better-2 (ahead-claims t) (ahead-at t) ahead.Post ahead-Inv-loop ahead-μ-loop
+ahead-add-better-2 t c = omega (arith, room t (c .before .before .before .before .before .before .before))
 
-edge-better-add-better-3 :
-    (t : ℕ) → edge-better-lts.Need-add-better-3 (edge-claims t) (edge-better-at t) edge-better.Post edge-better-Inv-loop edge-better-μ-loop
-edge-better-add-better-3 t c = omega (arith, room t (c .before .before .before .before .before .before .before))
+ahead-add-better-3 :
+    (t : ℕ) → ahead-lts.Need-add-first-better-3 (ahead-claims t) (ahead-at t) ahead.Post ahead-Inv-loop ahead-μ-loop
+ahead-add-better-3 t c = omega (arith, room t (c .before .before .before .before .before .before .before))
 
-edge-better-better-requires :
-    (t : ℕ) → edge-better-lts.Need-better-requires (edge-claims t) (edge-better-at t) edge-better.Post edge-better-Inv-loop edge-better-μ-loop
-edge-better-better-requires t c κs =
+ahead-better-requires :
+    (t : ℕ) → ahead-lts.Need-first-better-requires (ahead-claims t) (ahead-at t) ahead.Post ahead-Inv-loop ahead-μ-loop
+ahead-better-requires t c κs =
     let h = c .before .before .before .before .before .before .before in
     let f = h .before .before .before in
     let k = f .before .before .before .before .before .before .before .before .before .before .before .before in
     let l = f .before .before .before .loop in
     let a = k .before .before .before .before .before .args in
-    let p = k .before .before .before .before .before .pre .1 .0 in (
-      omega (arith, k .before .before .before .before .before .pre .0, p .more),
+    let p = k .before .before .before .before .before .pre .1 .0 in
+    let W = l .inv .2 in (
+      omega (arith, k .before .before .before .before .before .pre .0, W .left, W .within),
       (
-        subst (Test-goes-on (a .table .now) (a .code .now) (a .m) (a .n) (a .t + 1))
+        subst (Test-goes-on (a .table .now) (a .code .now) (l .bound) (a .n) (a .t + 1))
             (sym (given-place (l .inv .1) (c .before .before .before .give-number .ensures) (a .count) (a .low)))
-            (edge-goes (p .goes) (p .more) (p .ahead) (k .place-of .result) (k .place-of .ensures .0) (k .place-of .ensures .1) (byte t k)
-            (l .w) (low-way t f) (tied-at t h) (own t h)),
+            (edge-goes (lowered t h) (W .left) (p .ahead) (k .place-of .result) (k .place-of .ensures .0)
+            (k .place-of .ensures .1) (byte t k) (l .w) (low-way t f) (tied-at t h) (own t h)),
         k .before .before .before .before .before .pre .1 .1,
       ),
     )
 
-edge-better-returns-3 :
-    (t : ℕ) → edge-better-lts.Need-returns-3 (edge-claims t) (edge-better-at t) edge-better.Post edge-better-Inv-loop edge-better-μ-loop
-edge-better-returns-3 t c =
-    let h = c .before .before .before .before .before .before .before .before .before in
+ahead-returns-3 :
+    (t : ℕ) → ahead-lts.Need-returns-3 (ahead-claims t) (ahead-at t) ahead.Post ahead-Inv-loop ahead-μ-loop
+ahead-returns-3 t c =
+    let h = c .before .before .before .before .before .before .before .before .before .before .before .before .before in
     let f = h .before .before .before in
     let k = f .before .before .before .before .before .before .before .before .before .before .before .before in
     let l = f .before .before .before .loop in
     let a = k .before .before .before .before .before .args in
-    let p = k .before .before .before .before .before .pre .1 .0 in (
-      decides-true (edge-tells (p .goes) (p .more) (p .ahead) (k .place-of .result) (k .place-of .ensures .0) (k .place-of .ensures .1)
-          (byte t k) (l .w) (low-way t f) (tied-at t h) (own t h)
-          (subst (Better-below (a .code .now) (a .t + 1))
-          (given-place (l .inv .1) (c .before .before .before .before .before .give-number .ensures) (a .count) (a .low))
-          (c .before .better .ensures .0 .holds (c .if4 .taken)))),
-      not-taken,
+    let p = k .before .before .before .before .before .pre .1 .0 in
+    let g = c .before .before .before .before .before .before .before .before .before .give-number in
+    let r = c .before .before .before .before .before .first-better in (
+      ways-enough (p .goes) (p .more) (p .ahead) (k .place-of .result) (k .place-of .ensures .0) (k .place-of .ensures .1) (byte t k)
+          (l .inv .2) (low-way t f) (tied-at t h) (own t h)
+          (subst (λ (b : State). First-better (a .code .now) (l .bound) (a .enough) (a .t + 1) b (r .result))
+          (given-place (l .inv .1) (g .ensures) (a .count) (a .low)) (r .ensures .0))
+          (c .if4 .taken),
+      taken-place (l .inv .1) (g .ensures) (r .ensures .1) (c .before .take-number .ensures)
+          (tied-at t h .taken (wanted-label-some (a .code .now) (a .t) (own t h))),
     )
 
-edge-better-take-number-requires :
-    (t : ℕ) → edge-better-lts.Need-take-number-requires (edge-claims t) (edge-better-at t) edge-better.Post edge-better-Inv-loop edge-better-μ-loop
-edge-better-take-number-requires t c κs = room t (c .before .before .before .before .before .before .before .before .before .before .before .before)
+ahead-take-number-requires :
+    (t : ℕ) → ahead-lts.Need-take-number-requires (ahead-claims t) (ahead-at t) ahead.Post ahead-Inv-loop ahead-μ-loop
+ahead-take-number-requires t c κs = room t (c .before .before .before .before .before .before .before .before .before .before .before)
 
-edge-better-add-w :
-    (t : ℕ) → edge-better-lts.Need-add-w (edge-claims t) (edge-better-at t) edge-better.Post edge-better-Inv-loop edge-better-μ-loop
-edge-better-add-w t c = search needs
+ahead-add-w :
+    (t : ℕ) → ahead-lts.Need-add-w (ahead-claims t) (ahead-at t) ahead.Post ahead-Inv-loop ahead-μ-loop
+ahead-add-w t c = search needs
 
-edge-better-loop-less :
-    (t : ℕ) → edge-better-lts.Need-loop-less (edge-claims t) (edge-better-at t) edge-better.Post edge-better-Inv-loop edge-better-μ-loop
-edge-better-loop-less t c = search needs
+ahead-loop-less :
+    (t : ℕ) → ahead-lts.Need-loop-less (ahead-claims t) (ahead-at t) ahead.Post ahead-Inv-loop ahead-μ-loop
+ahead-loop-less t c = search needs
 
-edge-better-loop-again :
-    (t : ℕ) → edge-better-lts.Need-loop-again (edge-claims t) (edge-better-at t) edge-better.Post edge-better-Inv-loop edge-better-μ-loop
-edge-better-loop-again t c =
+ahead-loop-again :
+    (t : ℕ) → ahead-lts.Need-loop-again (ahead-claims t) (ahead-at t) ahead.Post ahead-Inv-loop ahead-μ-loop
+ahead-loop-again t c =
     let k = c .before .before .before .before .before .before .before .before .before .before .before .before .before .before .before in
     let f = c .before .before .before in
     let l = f .before .before .before .loop in
     let a = k .before .before .before .before .before .args in
     let p = k .before .before .before .before .before .pre .1 .0 in
-    let Tried : ℕ → Type 0 =
-    Tried-way (a .table .now) (a .code .now) (a .t) (in-place (a .numbers .now) (a .used .now) (a .path .now) (a .count) (a .given) (a .low))
-    (k .place-of .result)
+    let Ways : ℕ → Type 0 = λ bound.
+    Ways-tried (a .table .now) (a .code .now) (a .m) (a .t) (in-place (a .numbers .now) (a .used .now) (a .path .now) (a .count) (a .given) (a .low))
+    (k .place-of .result) bound (l .w + 1)
     in
-    let way : Same-arrays (a .numbers .now) (c .if3 .numbers) (a .used .now) (c .if3 .used) (a .path .now) (c .if3 .path) × Tried (l .w) =
+    let way : Same-arrays (a .numbers .now) (c .if3 .numbers) (a .used .now) (c .if3 .used) (a .path .now) (c .if3 .path) × Ways (c .if3 .bound) =
     ⊎-elim
     (λ w.
-    let h : edge-better-lts.Then3 (edge-claims t) (edge-better-at t) edge-better.Post edge-better-Inv-loop edge-better-μ-loop =
+    let h : ahead-lts.Then3 (ahead-claims t) (ahead-at t) ahead.Post ahead-Inv-loop ahead-μ-loop =
     record { before = c .before; if3 = w .0 } in (
       joined
-          (taken-place (l .inv .1) (w .4 .ensures) (kept (w .8 .ensures .1) (w .9 .left)) (w .13 .ensures)
+          (taken-place (l .inv .1) (w .4 .ensures) (w .8 .ensures .1) (w .12 .ensures)
           (tied-at t h .taken (wanted-label-some (a .code .now) (a .t) (own t h))))
           (w .14) (w .15) (w .16),
-      tried-way (p .goes) (p .more) (p .ahead) (k .place-of .result) (k .place-of .ensures .0) (k .place-of .ensures .1) (byte t k)
-          (l .w) (low-way t f) (tied-at t h) (own t h)
-          (λ m.
-          w .8 .ensures .0 .fails (w .9 .left)
-          (subst (Better-below (a .code .now) (a .t + 1)) (sym (given-place (l .inv .1) (w .4 .ensures) (a .count) (a .low))) m)),
+      subst Ways (sym (w .17))
+          (ways-followed (p .goes) (p .more) (p .ahead) (k .place-of .result) (k .place-of .ensures .0) (k .place-of .ensures .1) (byte t k)
+          (l .inv .2) (low-way t f) (tied-at t h) (own t h)
+          (subst (λ (b : State). First-better (a .code .now) (l .bound) (a .enough) (a .t + 1) b (w .8 .result))
+          (given-place (l .inv .1) (w .4 .ensures) (a .count) (a .low)) (w .8 .ensures .0))
+          (w .13 .left)),
     ))
     (λ w. (
       joined (l .inv .1) (w .1) (w .2) (w .3),
-      ⊎-elim
-          (λ y.
-          not-lower-way (p .goes) (p .more) (p .ahead) (k .place-of .result) (k .place-of .ensures .0) (k .place-of .ensures .1) (byte t k)
-          (l .w) (low-way t f) y
-          (λ m.
-          c .before .before .is-lower .ensures .fails (c .before .if2 .left)
-          (subst (Lower (f .counted-label .result)) (sym (k .before .before .before .wanted-label .ensures .0)) m))
-          (λ e. w .0 .left (e ∙ sym (k .before .before .before .wanted-label .ensures .0))))
-          (λ y.
-          twin-way (p .goes) (p .more) (p .ahead) (k .place-of .result) (k .place-of .ensures .0) (k .place-of .ensures .1) (byte t k)
-          (l .w) (low-way t f) (y .1) (l .inv .2))
-          (counted-at t f),
+      subst Ways (sym (w .4)) (ways-skipped (l .inv .2) (passed t c (w .0 .left))),
     ))
     (c .if3 .came)
     in
-    (omega (arith, f .before .before .loop-test .taken), way .0, below-more Tried (l .w) (l .inv .2) (way .1))
+    (omega (arith, f .before .before .loop-test .taken), way .0, way .1)
 
-edge-better-returns-4 :
-    (t : ℕ) → edge-better-lts.Need-returns-4 (edge-claims t) (edge-better-at t) edge-better.Post edge-better-Inv-loop edge-better-μ-loop
-edge-better-returns-4 t c =
+ahead-returns-4 :
+    (t : ℕ) → ahead-lts.Need-returns-4 (ahead-claims t) (ahead-at t) ahead.Post ahead-Inv-loop ahead-μ-loop
+ahead-returns-4 t c =
     let k = c .before .before .before .before .before .before .before .before .before .before in
     let l = c .before .loop in
     let p = k .before .before .before .before .before .pre .1 .0 in (
-      decides-false (edge-way-none (p .goes) (p .more) (p .ahead) (k .place-of .result) (k .place-of .ensures .0) (k .place-of .ensures .1)
-          (byte t k) (c .before .before .before .before .before .before .some-before .ensures .fails
-          (c .before .before .before .before .before .if1 .left))
-          (λ v h. l .inv .2 v (omega (arith, c .loop-test .left)))),
-      taken-same (l .inv .1),
+      ways-all (p .goes) (p .more) (p .ahead) (k .place-of .result) (k .place-of .ensures .0) (k .place-of .ensures .1) (byte t k)
+          (l .inv .2) (omega (arith, c .loop-test .left))
+          (c .before .before .before .before .before .before .some-before .ensures .fails
+          (c .before .before .before .before .before .if1 .left)),
+      l .inv .1,
     )
 
-pub +better+edge-better-spec : {M : Type 1} → statement M
-+better+edge-better-spec = close μ-better μ-edge-better (λ t. better-lts.spec (better-claims t) (better-at t) better.Post
+pub +first-better+first-better-ahead-spec : {M : Type 1} → statement M
++first-better+first-better-ahead-spec = close μ-better μ-ahead (λ t. better-lts.spec (better-claims t) (better-at t) better.Post
     (better-returns t)
     (better-mul-i t)
     (better-shared-slice-read-i t)
     (better-mul-j t)
     (better-add-j t)
     (better-shared-slice-read-j t)
-    (better-edge-better-requires t)
+    (better-ahead-requires t)
     (better-returns-2 t)
     (better-place-of-requires t)
     (better-wanted-label-requires t)
@@ -651,26 +681,26 @@ pub +better+edge-better-spec : {M : Type 1} → statement M
     (better-returns-3 t)
     (better-returns-4 t)
     (better-returns-5 t))
-    λ t. edge-better-lts.spec (edge-claims t) (edge-better-at t) edge-better.Post edge-better-Inv-loop edge-better-μ-loop
-    (edge-better-wanted-label-requires t)
-    (edge-better-mul-place-of t)
-    (edge-better-shared-slice-read-place-of t)
-    (edge-better-place-of-requires t)
-    (edge-better-some-before-requires t)
-    (edge-better-returns t)
-    (edge-better-device-at-requires t)
-    (edge-better-loop-holds t)
-    (edge-better-counted-label-requires t)
-    (edge-better-is-lower-requires t)
-    (edge-better-returns-2 t)
-    (edge-better-give-number-requires t)
-    (edge-better-add-better t)
-    (edge-better-add-better-2 t)
-    (edge-better-add-better-3 t)
-    (edge-better-better-requires t)
-    (edge-better-returns-3 t)
-    (edge-better-take-number-requires t)
-    (edge-better-add-w t)
-    (edge-better-loop-less t)
-    (edge-better-loop-again t)
-    (edge-better-returns-4 t)
+    λ t. ahead-lts.spec (ahead-claims t) (ahead-at t) ahead.Post ahead-Inv-loop ahead-μ-loop
+    (ahead-wanted-label-requires t)
+    (ahead-mul-place-of t)
+    (ahead-shared-slice-read-place-of t)
+    (ahead-place-of-requires t)
+    (ahead-some-before-requires t)
+    (ahead-returns t)
+    (ahead-device-at-requires t)
+    (ahead-loop-holds t)
+    (ahead-counted-label-requires t)
+    (ahead-is-lower-requires t)
+    (ahead-returns-2 t)
+    (ahead-give-number-requires t)
+    (ahead-add-better t)
+    (ahead-add-better-2 t)
+    (ahead-add-better-3 t)
+    (ahead-better-requires t)
+    (ahead-take-number-requires t)
+    (ahead-returns-3 t)
+    (ahead-add-w t)
+    (ahead-loop-less t)
+    (ahead-loop-again t)
+    (ahead-returns-4 t)

@@ -1,5 +1,5 @@
 -- The starts of a search: every cable of a code, seen from each end, against the code's first record; what they tell of its first m records, and
--- that these are greedy exactly if no start comes before them. Rests on Better and TestFollowLaws. Assumes nothing.
+-- that these are greedy exactly if no start comes before them. Rests on Better and CodeRows. Assumes nothing.
 use mathlib.Core.Path.{_≡_, refl, sym, ap, _∙_, subst}
 use mathlib.Core.Bool.{true}
 use mathlib.Core.List.{List, [], _∷_, _++_}

@@ -36,8 +36,9 @@ extern "C" {
  * A survey is 1 to 32 drawings one after another; several may be sheets of one crane.
  * A code is 1 to 20 records of 5 bytes: i, j, kind of i, cable kind, kind of j. That of a lone device of kind k is the one
  * record 0, 0, k, 0, k.
- * An entry of a catalogue or a book is 42 bytes: number of cables, support, the records of the least code, zeros up to 8 records.
+ * An entry of a catalogue or a book is 43 bytes: number of cables, support, the records of the least code, zeros up to 8 records, example.
  * The support in a catalogue is the number of different cranes among the drawings that contain the pattern; in a book it is 0.
+ * The example in a catalogue is the lowest number of a drawing that contains the pattern, 0 to 31, and no number of a crane; in a book it is 0.
  * A list is any bytes that may be the entries of a catalogue, one behind another. */
 #define HOLVREIZ_DRAWING_BYTES 73
 #define HOLVREIZ_CRANE_AT 72 /* the place of a drawing's crane */
@@ -45,7 +46,8 @@ extern "C" {
 #define HOLVREIZ_RECORD_BYTES 5
 #define HOLVREIZ_CODE_BYTES 100 /* the longest code */
 #define HOLVREIZ_MAP_BYTES 10   /* the longest map */
-#define HOLVREIZ_ENTRY_BYTES 42
+#define HOLVREIZ_ENTRY_BYTES 43
+#define HOLVREIZ_EXAMPLE_AT 42 /* the place of an entry's example */
 
 /* REFUSALS. Places are checked from the top, as far as a call has them, and the first that applies is returned; of two
  * drawings or codes the first is checked fully before the second. A call's settings, 12 and 13, 16 and 17, come before all else; the length of
@@ -69,7 +71,7 @@ enum holvreiz_reason {
     HOLVREIZ_OUTPUT_LENGTH = 15,  /* the lent output is too short for the whole answer */
     HOLVREIZ_KIND_COUNT = 16,     /* the kinds of devices or of cables of a book are not 1 to 3 */
     HOLVREIZ_BOOK_LIMIT = 17,     /* the size limit of a book is not 1 to 3 */
-    HOLVREIZ_LIST_LENGTH = 18     /* the length of a list is no multiple of 42 */
+    HOLVREIZ_LIST_LENGTH = 18     /* the length of a list is no multiple of 43 */
 };
 
 /* What a call returned, taken apart. The drawing at fault counts from 0; it is told of refusals 2 to 8 of a catalogue or of the check of a list. */
@@ -128,28 +130,29 @@ uint64_t holvreiz_match(const uint8_t *pattern, size_t pattern_length, const uin
 uint64_t holvreiz_same(const uint8_t *first, size_t first_length, const uint8_t *second, size_t second_length);
 
 /* Writes the catalogue of a survey: an entry for each pattern of 1 to `limit` cables (1 to 8) that drawings of at least `threshold`
- * different cranes (1 to 32) contain, codes rising. Sheets of one crane count once. Needs 42 bytes of output for each entry; how many there are
- * the call alone can tell: after HOLVREIZ_OUTPUT_LENGTH lend more and call again. The program `catalogue` lends 65,520 bytes, 1,560 entries.
+ * different cranes (1 to 32) contain, codes rising. Sheets of one crane count once. Needs 43 bytes of output for each entry; how many there are
+ * the call alone can tell: after HOLVREIZ_OUTPUT_LENGTH lend more and call again. The program `catalogue` lends 67,080 bytes, 1,560 entries.
  * Count: entries. */
 uint64_t holvreiz_catalogue(const uint8_t *survey, size_t survey_length, uint32_t threshold, uint32_t limit,
                             uint8_t *output, size_t output_length);
 
 /* Whether a list is the catalogue of a survey, byte for byte: the entries that holvreiz_catalogue writes with this threshold and this limit, one
- * behind another, and nothing else. An incomplete list is not; a list of no byte is where nothing is frequent. Its bytes are only compared, so that
- * it may hold anything and be longer than any catalogue. Refused as a catalogue is, without HOLVREIZ_OUTPUT_LENGTH; then for its length. No output
- * is lent. Count: 1 yes, 0 no. */
+ * behind another, and nothing else. An incomplete list is not, and neither is one with another example; a list of no byte is where nothing is
+ * frequent. Its bytes are only compared, so that it may hold anything and be longer than any catalogue. Refused as a catalogue is, without
+ * HOLVREIZ_OUTPUT_LENGTH; then for its length. No output is lent. Count: 1 yes, 0 no. */
 uint64_t holvreiz_check_list(const uint8_t *survey, size_t survey_length, uint32_t threshold, uint32_t limit,
                              const uint8_t *list, size_t list_length);
 
 /* The same of the usual catalogue: threshold 2, limit 6. Count: 1 yes, 0 no. */
 uint64_t holvreiz_check_usual(const uint8_t *survey, size_t survey_length, const uint8_t *list, size_t list_length);
 
-/* The same of the catalogue that was usual before, for lists that were sent then: threshold 2, limit 4. Count: 1 yes, 0 no. */
+/* The same of the catalogue that was usual before: threshold 2, limit 4. Its entries have an example too: a list from before they had one has to be
+ * made again. Count: 1 yes, 0 no. */
 uint64_t holvreiz_check_four(const uint8_t *survey, size_t survey_length, const uint8_t *list, size_t list_length);
 
-/* Writes the book of all small patterns: an entry with support 0 for each connected pattern of 1 to `limit` cables (1 to 3) with device
- * kinds below `a` and cable kinds below `b` (1 to 3 each), codes rising. Needs 42 bytes of output for each entry; docs/BOOK.md has their
- * numbers, and 81,774 bytes do for every book. `a` and `b` are checked first, then `limit`, then the output. Count: entries. */
+/* Writes the book of all small patterns: an entry with support 0 and example 0 for each connected pattern of 1 to `limit` cables (1 to 3) with
+ * device kinds below `a` and cable kinds below `b` (1 to 3 each), codes rising. Needs 43 bytes of output for each entry; docs/BOOK.md has their
+ * numbers, and 83,721 bytes do for every book. `a` and `b` are checked first, then `limit`, then the output. Count: entries. */
 uint64_t holvreiz_book(uint32_t a, uint32_t b, uint32_t limit, uint8_t *output, size_t length);
 
 #ifdef __cplusplus

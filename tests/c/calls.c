@@ -32,6 +32,7 @@ static int all(const uint8_t *bytes, size_t count, uint8_t value) {
 }
 
 enum { LENT = 200, MARK = 170, DRAWING = HOLVREIZ_DRAWING_BYTES, CRANE_AT = HOLVREIZ_CRANE_AT };
+enum { ENTRY = HOLVREIZ_ENTRY_BYTES, EXAMPLE_AT = HOLVREIZ_EXAMPLE_AT };
 
 static uint8_t output[LENT];
 
@@ -172,11 +173,14 @@ static void catalogues(void) {
 
     lend();
     EXPECT(is(holvreiz_catalogue(survey, 2 * DRAWING, 1, 4, output, LENT), HOLVREIZ_ANSWERED, 3, 0));
-    EXPECT(output[0] == 1 && output[1] == 2 && output[42] == 2 && output[43] == 2 && output[84] == 3 && output[85] == 1);
-    EXPECT(memcmp(output + 44, path_code, 10) == 0 && all(output + 54, 30, 0) && all(output + 126, LENT - 126, MARK));
+    EXPECT(output[0] == 1 && output[1] == 2 && output[43] == 2 && output[44] == 2 && output[86] == 3 && output[87] == 1);
+    EXPECT(output[42] == 0 && output[85] == 0 && output[128] == 1);
+    EXPECT(memcmp(output + 45, path_code, 10) == 0 && all(output + 55, 30, 0) && all(output + 129, LENT - 129, MARK));
     lend();
-    EXPECT(is(holvreiz_catalogue(survey, 2 * DRAWING, 1, 4, output, 125), HOLVREIZ_OUTPUT_LENGTH, 0, 0));
-    EXPECT(all(output, 125, 0) && all(output + 125, LENT - 125, MARK));
+    EXPECT(is(holvreiz_catalogue(survey, 2 * DRAWING, 1, 4, output, 129), HOLVREIZ_ANSWERED, 3, 0) && all(output + 129, LENT - 129, MARK));
+    lend();
+    EXPECT(is(holvreiz_catalogue(survey, 2 * DRAWING, 1, 4, output, 128), HOLVREIZ_OUTPUT_LENGTH, 0, 0));
+    EXPECT(all(output, 128, 0) && all(output + 128, LENT - 128, MARK));
     lend();
     EXPECT(is(holvreiz_catalogue(survey, 3 * DRAWING, 1, 4, output, LENT), HOLVREIZ_NOT_CONNECTED, 0, 2) && all(output, LENT, MARK));
     EXPECT(is(holvreiz_catalogue(survey, 2 * DRAWING, 0, 9, output, LENT), HOLVREIZ_THRESHOLD, 0, 0) && all(output, LENT, MARK));
@@ -194,12 +198,12 @@ static void cranes(void) {
 
     lend();
     EXPECT(is(holvreiz_catalogue(survey, 2 * DRAWING, 1, 4, output, LENT), HOLVREIZ_ANSWERED, 3, 0));
-    EXPECT(output[1] == 1 && output[43] == 1 && output[85] == 1);
+    EXPECT(output[1] == 1 && output[ENTRY + 1] == 1 && output[2 * ENTRY + 1] == 1);
     lend();
     EXPECT(is(holvreiz_catalogue(survey, 2 * DRAWING, 2, 4, output, LENT), HOLVREIZ_ANSWERED, 0, 0) && all(output, LENT, MARK));
     survey[CRANE_AT] = 255;
     EXPECT(is(holvreiz_catalogue(survey, 2 * DRAWING, 2, 4, output, LENT), HOLVREIZ_ANSWERED, 2, 0));
-    EXPECT(output[1] == 2 && output[43] == 2 && all(output + 84, LENT - 84, MARK));
+    EXPECT(output[1] == 2 && output[ENTRY + 1] == 2 && all(output + 2 * ENTRY, LENT - 2 * ENTRY, MARK));
     lend();
     EXPECT(is(holvreiz_catalogue(survey, 2 * CRANE_AT, 1, 4, output, LENT), HOLVREIZ_DRAWING_LENGTH, 0, 0) && all(output, LENT, MARK));
 
@@ -216,7 +220,7 @@ static void cranes(void) {
 /* The list of the path and the triangle as two cranes, s = 1 and L = 4: right, incomplete, too long, with another support, in another order; the
  * settings and the survey before the length of the list. What is given stays as it was. */
 static void lists(void) {
-    enum { ENTRY = HOLVREIZ_ENTRY_BYTES, THREE = 3 * HOLVREIZ_ENTRY_BYTES };
+    enum { THREE = 3 * ENTRY };
     uint8_t survey[3 * DRAWING], list[THREE + ENTRY], before[THREE + ENTRY], kept[3 * DRAWING];
     fill_survey(survey);
     memset(list, 0, sizeof list);
@@ -253,7 +257,6 @@ static void lists(void) {
 /* The calls that are given no settings, of the same survey: no pattern has over three cables, so that both have the two entries for s = 2.
  * What is given stays as it was. */
 static void lists_without_settings(void) {
-    enum { ENTRY = HOLVREIZ_ENTRY_BYTES };
     uint8_t survey[3 * DRAWING], list[3 * ENTRY], before[3 * ENTRY], kept[3 * DRAWING];
     fill_survey(survey);
     EXPECT(is(holvreiz_catalogue(survey, 2 * DRAWING, 1, 4, list, sizeof list), HOLVREIZ_ANSWERED, 3, 0));
@@ -281,7 +284,6 @@ static void lists_without_settings(void) {
 /* A path of eight devices on two cranes has an entry for each number of cables from 1 to 7; its usual list ends with six, the one of before with
  * four. */
 static void usual_and_former_lists(void) {
-    enum { ENTRY = HOLVREIZ_ENTRY_BYTES };
     static const uint8_t long_path[DRAWING] = {8, 7, 1, 1, 1, 1, 1, 1, 1, 1, 0, 0, 0, 1, 5, 1, 2, 5, 2, 3, 5, 3, 4, 5, 4, 5, 5, 5, 6, 5, 6, 7, 5};
     uint8_t survey[2 * DRAWING], list[7 * ENTRY];
     memcpy(survey, long_path, DRAWING);
@@ -293,6 +295,93 @@ static void usual_and_former_lists(void) {
         EXPECT(is(holvreiz_check_four(survey, 2 * DRAWING, list, entries * ENTRY), HOLVREIZ_ANSWERED, entries == 4, 0));
         EXPECT(is(holvreiz_check_list(survey, 2 * DRAWING, 2, 7, list, entries * ENTRY), HOLVREIZ_ANSWERED, entries == 7, 0));
     }
+}
+
+/* Whether three entries have these examples. */
+static int have_examples(const uint8_t *entries, uint8_t first, uint8_t second, uint8_t third) {
+    return entries[EXAMPLE_AT] == first && entries[ENTRY + EXAMPLE_AT] == second && entries[2 * ENTRY + EXAMPLE_AT] == third;
+}
+
+/* The cable, the path and the triangle: the lowest drawing that has them, whatever the cranes are; of 32 drawings the last alone, behind lone devices
+ * and sheets of its own crane. */
+static void examples(void) {
+    enum { MOST = HOLVREIZ_SURVEY_DRAWINGS };
+    static const uint8_t seven[DRAWING] = {1, 0, 7};
+    uint8_t survey[MOST * DRAWING];
+    EXPECT(ENTRY == 43 && EXAMPLE_AT == 42);
+    fill_survey(survey);
+    survey[CRANE_AT] = 7;
+    survey[DRAWING + CRANE_AT] = 9;
+    EXPECT(is(holvreiz_catalogue(survey, 2 * DRAWING, 1, 4, output, LENT), HOLVREIZ_ANSWERED, 3, 0) && have_examples(output, 0, 0, 1));
+    memcpy(survey, triangle, DRAWING);
+    memcpy(survey + DRAWING, path, DRAWING);
+    EXPECT(is(holvreiz_catalogue(survey, 2 * DRAWING, 1, 4, output, LENT), HOLVREIZ_ANSWERED, 3, 0) && have_examples(output, 0, 0, 0));
+
+    for (int d = 0; d < MOST; d++) {
+        memcpy(survey + d * DRAWING, d == MOST - 1 ? triangle : d % 2 ? path : seven, DRAWING);
+    }
+    EXPECT(is(holvreiz_catalogue(survey, sizeof survey, 1, 4, output, LENT), HOLVREIZ_ANSWERED, 3, 0) && have_examples(output, 1, 1, 31));
+}
+
+/* Whether the three calls that check a list, of patterns of two cranes and at most four cables, return this. */
+static int checked(const uint8_t *survey, size_t survey_length, const uint8_t *list, size_t list_length, uint32_t refusal, uint32_t count) {
+    return is(holvreiz_check_list(survey, survey_length, 2, 4, list, list_length), refusal, count, 0)
+        && is(holvreiz_check_usual(survey, survey_length, list, list_length), refusal, count, 0)
+        && is(holvreiz_check_four(survey, survey_length, list, list_length), refusal, count, 0);
+}
+
+/* A path and two triangles, each its own crane. Every other example is a no, also where that drawing contains the pattern. */
+static void lists_with_other_examples(void) {
+    uint8_t survey[3 * DRAWING], list[3 * ENTRY];
+    fill_survey(survey);
+    memcpy(survey + 2 * DRAWING, triangle, DRAWING);
+    survey[2 * DRAWING + CRANE_AT] = 2;
+    EXPECT(is(holvreiz_catalogue(survey, sizeof survey, 2, 4, list, sizeof list), HOLVREIZ_ANSWERED, 3, 0) && have_examples(list, 0, 0, 1));
+    EXPECT(checked(survey, sizeof survey, list, sizeof list, HOLVREIZ_ANSWERED, 1));
+    for (size_t entry = 0; entry < 3; entry++) {
+        uint8_t *example = list + entry * ENTRY + EXAMPLE_AT, right = *example;
+        for (int other = 0; other < 256; other++) {
+            *example = (uint8_t)other;
+            EXPECT(checked(survey, sizeof survey, list, sizeof list, HOLVREIZ_ANSWERED, other == right));
+        }
+        *example = right;
+    }
+}
+
+/* A drawing of devices of kind 1, whose cables have rising kinds. */
+static void fill_drawing(uint8_t *drawing, const uint8_t (*ends)[2], uint8_t cables, uint8_t first_kind, uint8_t crane) {
+    memset(drawing, 0, DRAWING);
+    drawing[0] = cables + 1;
+    drawing[1] = cables;
+    memset(drawing + 2, 1, cables + 1);
+    for (uint8_t c = 0; c < cables; c++) {
+        const uint8_t cable[3] = {ends[c][0], ends[c][1], (uint8_t)(first_kind + c)};
+        memcpy(drawing + 12 + 3 * c, cable, sizeof cable);
+    }
+    drawing[CRANE_AT] = crane;
+}
+
+/* Lists from before entries had an example: their length is refused, but for that of 43 patterns, which is the length of 42 entries and a no. No two
+ * cables are of one kind, so that stars of four cables have 15 patterns each, a path of four 10 and one of two 3. */
+static void lists_without_examples(void) {
+    enum { PATTERNS = 43, OLD = 42 };
+    static const uint8_t star[4][2] = {{0, 1}, {0, 2}, {0, 3}, {0, 4}}, row[4][2] = {{0, 1}, {1, 2}, {2, 3}, {3, 4}};
+    static uint8_t survey[8 * DRAWING], list[PATTERNS * ENTRY], old[PATTERNS * OLD];
+    for (uint8_t crane = 0; crane < 2; crane++) {
+        uint8_t *sheets = survey + 4 * crane * DRAWING;
+        fill_drawing(sheets, star, 4, 0, crane);
+        fill_drawing(sheets + DRAWING, star, 4, 4, crane);
+        fill_drawing(sheets + 2 * DRAWING, row, 4, 8, crane);
+        fill_drawing(sheets + 3 * DRAWING, row, 2, 12, crane);
+    }
+    EXPECT(is(holvreiz_catalogue(survey, sizeof survey, 2, 4, list, sizeof list), HOLVREIZ_ANSWERED, PATTERNS, 0));
+    EXPECT(checked(survey, sizeof survey, list, sizeof list, HOLVREIZ_ANSWERED, 1));
+    for (size_t entry = 0; entry < PATTERNS; entry++) {
+        memcpy(old + entry * OLD, list + entry * ENTRY, OLD);
+    }
+    EXPECT(checked(survey, sizeof survey, old, sizeof old, HOLVREIZ_ANSWERED, 0));
+    EXPECT(checked(survey, sizeof survey, old, sizeof old - OLD, HOLVREIZ_LIST_LENGTH, 0));
+    EXPECT(checked(survey, sizeof survey, old, OLD, HOLVREIZ_LIST_LENGTH, 0));
 }
 
 /* Every call of devices without cables, of kinds 7 and 8. */
@@ -338,7 +427,8 @@ static void lone(void) {
     EXPECT(is(holvreiz_catalogue(survey, 2 * DRAWING, 1, 8, output, LENT), HOLVREIZ_ANSWERED, 0, 0) && all(output, LENT, MARK));
     EXPECT(is(holvreiz_check_list(survey, 2 * DRAWING, 1, 8, output, 0), HOLVREIZ_ANSWERED, 1, 0));
     EXPECT(is(holvreiz_catalogue(survey, 3 * DRAWING, 1, 1, output, LENT), HOLVREIZ_ANSWERED, 1, 0));
-    EXPECT(output[0] == 1 && output[1] == 1 && memcmp(output + 2, path_code, 5) == 0 && all(output + 42, LENT - 42, MARK));
+    EXPECT(output[0] == 1 && output[1] == 1 && memcmp(output + 2, path_code, 5) == 0 && output[EXAMPLE_AT] == 2);
+    EXPECT(all(output + ENTRY, LENT - ENTRY, MARK));
     memcpy(survey + DRAWING, with_cable, DRAWING);
     EXPECT(is(holvreiz_catalogue(survey, 3 * DRAWING, 1, 1, output, LENT), HOLVREIZ_CABLE_COUNT, 0, 1));
 }
@@ -348,21 +438,22 @@ static void books(void) {
     static const uint8_t cable[7] = {1, 0, 0, 1, 0, 0, 0};
 
     lend();
-    EXPECT(is(holvreiz_book(1, 1, 1, output, 42), HOLVREIZ_ANSWERED, 1, 0));
-    EXPECT(memcmp(output, cable, 7) == 0 && all(output + 7, 35, 0) && all(output + 42, LENT - 42, MARK));
+    EXPECT(is(holvreiz_book(1, 1, 1, output, 43), HOLVREIZ_ANSWERED, 1, 0));
+    EXPECT(memcmp(output, cable, 7) == 0 && all(output + 7, 36, 0) && all(output + 43, LENT - 43, MARK));
     lend();
     EXPECT(is(holvreiz_book(1, 1, 2, output, LENT), HOLVREIZ_ANSWERED, 2, 0));
-    EXPECT(memcmp(output, cable, 7) == 0 && output[42] == 2 && output[43] == 0 && all(output + 84, LENT - 84, MARK));
+    EXPECT(memcmp(output, cable, 7) == 0 && output[43] == 2 && output[44] == 0 && all(output + 86, LENT - 86, MARK));
+    EXPECT(output[EXAMPLE_AT] == 0 && output[ENTRY + EXAMPLE_AT] == 0);
 
     lend();
     EXPECT(is(holvreiz_book(0, 1, 1, output, LENT), HOLVREIZ_KIND_COUNT, 0, 0) && all(output, LENT, MARK));
-    EXPECT(is(holvreiz_book(1, 4, 9, output, 41), HOLVREIZ_KIND_COUNT, 0, 0) && all(output, LENT, MARK));
+    EXPECT(is(holvreiz_book(1, 4, 9, output, 42), HOLVREIZ_KIND_COUNT, 0, 0) && all(output, LENT, MARK));
     EXPECT(is(holvreiz_book(257, 1, 1, output, LENT), HOLVREIZ_KIND_COUNT, 0, 0) && all(output, LENT, MARK));
     EXPECT(is(holvreiz_book(3, 3, 4, output, LENT), HOLVREIZ_BOOK_LIMIT, 0, 0) && all(output, LENT, MARK));
     EXPECT(is(holvreiz_book(1, 1, 0, output, 0), HOLVREIZ_BOOK_LIMIT, 0, 0) && all(output, LENT, MARK));
     EXPECT(is(holvreiz_book(1, 1, 1, output, 0), HOLVREIZ_OUTPUT_LENGTH, 0, 0) && all(output, LENT, MARK));
-    EXPECT(is(holvreiz_book(1, 1, 1, output, 41), HOLVREIZ_OUTPUT_LENGTH, 0, 0));
-    EXPECT(all(output, 41, 0) && all(output + 41, LENT - 41, MARK));
+    EXPECT(is(holvreiz_book(1, 1, 1, output, 42), HOLVREIZ_OUTPUT_LENGTH, 0, 0));
+    EXPECT(all(output, 42, 0) && all(output + 42, LENT - 42, MARK));
 }
 
 int main(void) {
@@ -374,6 +465,9 @@ int main(void) {
     lists();
     lists_without_settings();
     usual_and_former_lists();
+    examples();
+    lists_with_other_examples();
+    lists_without_examples();
     lone();
     books();
     return failures != 0;

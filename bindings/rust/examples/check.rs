@@ -1,8 +1,8 @@
 //! Checks a list that was made elsewhere: `cargo run --example check -- SURVEY LIST [S L | four]`.
 //!
 //! Prints `yes` if the file LIST is, byte for byte, the catalogue of the file SURVEY with threshold S and size limit L, the usual 2 and 6 where none
-//! are given; `no` if it is not; or the refusal, as in `refused 18: the length of a list is no multiple of 42`. The word `four` is for a
-//! list that was sent when at most four cables were usual. The exit status is 0, 1 or 2, and 3 where nothing could be asked. From the folder of
+//! are given; `no` if it is not; or the refusal, as in `refused 18: the length of a list is no multiple of 43`. The word `four` is for the
+//! list of at most four cables, which were usual before. The exit status is 0, 1 or 2, and 3 where nothing could be asked. From the folder of
 //! this crate:
 //!
 //!     cargo run --example check -- ../../examples/cranes.survey ../../examples/cranes.list

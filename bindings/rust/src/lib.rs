@@ -52,9 +52,13 @@ pub const CODE_BYTES: usize = 100;
 /// The size of the longest map.
 pub const MAP_BYTES: usize = 10;
 
-/// The size of an entry of a catalogue or a book: number of cables, support, the least code's records, zeros up to 8 records. The support in a
-/// catalogue is the number of different cranes among the drawings that contain the pattern; in a book it is 0.
-pub const ENTRY_BYTES: usize = 42;
+/// The size of an entry of a catalogue or a book: number of cables, support, the least code's records, zeros up to 8 records, example. The support in
+/// a catalogue is the number of different cranes among the drawings that contain the pattern; in a book it is 0.
+pub const ENTRY_BYTES: usize = 43;
+
+/// The place of an entry's example. In a catalogue that is the lowest number of a drawing that contains the pattern, 0 to 31, and no number of a
+/// crane; in a book it is 0.
+pub const EXAMPLE_AT: usize = 42;
 
 /// Why a call is turned back, by the format's numbers 1 to 18. A refused call writes nothing; only [`Refusal::OutputLength`] of a
 /// catalogue or a book leaves the whole output zero.
@@ -95,7 +99,7 @@ pub enum Refusal {
     KindCount,
     /// A book's size limit is not 1 to 3.
     BookLimit,
-    /// The length of a list is no multiple of 42.
+    /// The length of a list is no multiple of 43.
     ListLength,
 }
 
@@ -151,7 +155,7 @@ impl Refusal {
             Refusal::OutputLength => "the lent output is too short for the whole answer",
             Refusal::KindCount => "the number of a book's kinds is not 1 to 3",
             Refusal::BookLimit => "a book's size limit is not 1 to 3",
-            Refusal::ListLength => "the length of a list is no multiple of 42",
+            Refusal::ListLength => "the length of a list is no multiple of 43",
         }
     }
 
@@ -303,7 +307,7 @@ pub fn same(first: &[u8], second: &[u8]) -> Result<bool, Refusal> {
 ///
 /// There is an entry for each pattern of 1 to `limit` cables that drawings of at least `threshold` different cranes contain; codes
 /// rise. Sheets of one crane count once. Where the entries don't fit, the whole output is zero and the refusal is
-/// [`Refusal::OutputLength`]. How many there are the call alone can tell: lend more and call again. The program `catalogue` lends 65,520
+/// [`Refusal::OutputLength`]. How many there are the call alone can tell: lend more and call again. The program `catalogue` lends 67,080
 /// bytes, 1,560 entries; no survey has more than 8,446,368 entries. A catalogue needs about 1.74 MB of stack (see the crate's first page).
 pub fn catalogue(
     survey: &[u8],
@@ -331,9 +335,9 @@ fn faulty_drawing(refusal: Refusal, returned: u64) -> Option<usize> {
 /// Whether a list that was made elsewhere is the catalogue of a survey, byte for byte: the entries that [`catalogue`] writes, one behind another,
 /// and nothing else.
 ///
-/// An incomplete list is not, and neither is a longer one; a list without entries is, where nothing is frequent. The bytes of a list are only
-/// compared: whatever they are, there is an answer. The refusals are those of a catalogue without [`Refusal::OutputLength`]; once the survey is
-/// accepted, a list whose length is no multiple of [`ENTRY_BYTES`] is [`Refusal::ListLength`]. Needs as much stack as a catalogue.
+/// An incomplete list is not, and neither is a longer one or one with another example; a list without entries is, where nothing is frequent. The
+/// bytes of a list are only compared: whatever they are, there is an answer. The refusals are those of a catalogue without [`Refusal::OutputLength`];
+/// once the survey is accepted, a list whose length is no multiple of [`ENTRY_BYTES`] is [`Refusal::ListLength`]. Needs as much stack as a catalogue.
 ///
 /// ```
 /// let mut drawing = holvreiz::Drawing::new();
@@ -341,10 +345,12 @@ fn faulty_drawing(refusal: Refusal, returned: u64) -> Option<usize> {
 /// let one = drawing.device(1)?;
 /// drawing.cable(two, one, 7)?;
 ///
-/// // one cable, support 1
+/// // one cable, support 1, example 0
 /// let mut list = [0; holvreiz::ENTRY_BYTES];
 /// list[..7].copy_from_slice(&[1, 1, 0, 1, 1, 7, 2]);
 /// assert_eq!(holvreiz::check_list(&drawing.bytes(), 1, 4, &list), Ok(true));
+/// list[holvreiz::EXAMPLE_AT] = 1;
+/// assert_eq!(holvreiz::check_list(&drawing.bytes(), 1, 4, &list), Ok(false));
 /// assert_eq!(holvreiz::check_list(&drawing.bytes(), 1, 4, &[]), Ok(false));
 /// # Ok::<(), holvreiz::Refusal>(())
 /// ```
@@ -362,17 +368,17 @@ pub fn check_usual(survey: &[u8], list: &[u8]) -> Result<bool, SurveyRefusal> {
     Ok(of_survey(raw::check_usual(survey, list))? == 1)
 }
 
-/// [`check_list`] for the catalogue that was usual before, for lists that were sent then: patterns of at most 4 cables that drawings of at
-/// least 2 cranes contain.
+/// [`check_list`] for the catalogue that was usual before: patterns of at most 4 cables that drawings of at least 2 cranes contain. Its entries have
+/// an example too: a list from before they had one has to be made again.
 pub fn check_four(survey: &[u8], list: &[u8]) -> Result<bool, SurveyRefusal> {
     Ok(of_survey(raw::check_four(survey, list))? == 1)
 }
 
 /// Writes the book of all small patterns into `output`, [`ENTRY_BYTES`] for each entry, and gives the number of entries.
 ///
-/// There is an entry, with support 0, for each connected pattern of 1 to `limit` cables with device kinds below `a` and cable kinds
+/// There is an entry, with support 0 and example 0, for each connected pattern of 1 to `limit` cables with device kinds below `a` and cable kinds
 /// below `b`; codes rise. All three are 1 to 3: [`Refusal::KindCount`] comes before [`Refusal::BookLimit`], and both before
-/// [`Refusal::OutputLength`], where the whole output is zero. The largest book has 1,947 entries, 81,774 bytes.
+/// [`Refusal::OutputLength`], where the whole output is zero. The largest book has 1,947 entries, 83,721 bytes.
 ///
 /// ```
 /// // one cable of the one kind, between two devices of the one kind

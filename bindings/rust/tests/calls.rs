@@ -202,6 +202,7 @@ fn the_catalogue_of_a_survey() {
     let mut output = [9; 3 * holvreiz::ENTRY_BYTES];
     assert_eq!(holvreiz::catalogue(&survey, 2, 4, &mut output), Ok(2));
     assert_eq!(output[..7], [1, 2, 0, 1, 1, 5, 1]);
+    assert_eq!(output[7..holvreiz::ENTRY_BYTES], [0; 36]);
     assert_eq!(
         output[2 * holvreiz::ENTRY_BYTES..],
         [9; holvreiz::ENTRY_BYTES]
@@ -269,6 +270,39 @@ fn cranes() {
     );
 }
 
+fn examples_of(entries: &[u8]) -> Vec<u8> {
+    let entries = entries.chunks(holvreiz::ENTRY_BYTES);
+    entries.map(|entry| entry[holvreiz::EXAMPLE_AT]).collect()
+}
+
+/// The lowest drawings that contain the cable, the path and the triangle, whatever the cranes are; the last of 32 behind lone devices.
+#[test]
+fn examples() {
+    let (path, triangle, lone) = (
+        plain(3, &[[0, 1], [1, 2]]),
+        plain(3, &[[0, 1], [1, 2], [2, 0]]),
+        drawing(&[7], &[]),
+    );
+    let last = [vec![lone, path], vec![lone; 29], vec![triangle]].concat();
+    for (drawings, examples) in [
+        (vec![of_crane(path, 7), of_crane(triangle, 9)], [0, 0, 1]),
+        (vec![of_crane(triangle, 9), of_crane(path, 7)], [0, 0, 0]),
+        (vec![path, triangle, triangle], [0, 0, 1]),
+        (last, [1, 1, 31]),
+    ] {
+        let survey = drawings.concat();
+        let mut list = [9; 3 * holvreiz::ENTRY_BYTES];
+        assert_eq!(holvreiz::catalogue(&survey, 1, 4, &mut list), Ok(3));
+        assert_eq!(examples_of(&list), examples);
+        for entry in 0..3 {
+            let mut other = list;
+            other[entry * holvreiz::ENTRY_BYTES + holvreiz::EXAMPLE_AT] ^= 1;
+            let checked = [&list, &other].map(|list| holvreiz::check_list(&survey, 1, 4, list));
+            assert_eq!(checked, [Ok(true), Ok(false)]);
+        }
+    }
+}
+
 /// The checks that are given no settings.
 const SHORTER: [fn(&[u8], &[u8]) -> Result<bool, holvreiz::SurveyRefusal>; 2] =
     [holvreiz::check_usual, holvreiz::check_four];
@@ -290,9 +324,11 @@ fn lists_made_elsewhere() {
     assert_eq!(check(1, 4, two), Ok(false));
     assert_eq!(check(1, 4, &[&list[..], last].concat()), Ok(false));
     assert_eq!(check(1, 4, &[255; 3 * holvreiz::ENTRY_BYTES]), Ok(false));
-    let mut support = list;
+    let (mut support, mut example) = (list, list);
     support[1] = 1;
+    example[holvreiz::EXAMPLE_AT] = 1;
     assert_eq!(check(1, 4, &support), Ok(false));
+    assert_eq!(check(1, 4, &example), Ok(false));
     assert_eq!(check(2, 4, two), Ok(true));
     assert_eq!(check(1, 2, two), Ok(true));
     assert_eq!(check(3, 4, &[]), Ok(true));
@@ -303,6 +339,7 @@ fn lists_made_elsewhere() {
         assert_eq!(check(&survey, two), Ok(true));
         assert_eq!(check(&survey, &list), Ok(false));
         assert_eq!(check(&survey, &support[..two.len()]), Ok(false));
+        assert_eq!(check(&survey, &example[..two.len()]), Ok(false));
         assert_eq!(check(&survey, &[]), Ok(false));
         assert_eq!(check(alone, &[]), Ok(true));
     }
@@ -338,8 +375,8 @@ fn checks_that_are_refused() {
         (&path[..0], 1, 4, 1, Refusal::SurveyLength, None),
         (&behind, 1, 4, 1, Refusal::NotConnected, Some(1)),
         (&path[..], 1, 4, 1, Refusal::ListLength, None),
-        (&path[..], 1, 4, 41, Refusal::ListLength, None),
-        (&path[..], 1, 4, 43, Refusal::ListLength, None),
+        (&path[..], 1, 4, 42, Refusal::ListLength, None),
+        (&path[..], 1, 4, 44, Refusal::ListLength, None),
     ] {
         let list = vec![1; list];
         assert_eq!(
@@ -355,7 +392,7 @@ fn checks_that_are_refused() {
     for check in SHORTER {
         assert_eq!(
             check(&path, &[1]).unwrap_err().to_string(),
-            "refused 18: the length of a list is no multiple of 42"
+            "refused 18: the length of a list is no multiple of 43"
         );
     }
 }
@@ -425,6 +462,7 @@ fn lone_devices() {
     assert_eq!(entries, [9; 2 * holvreiz::ENTRY_BYTES]);
     assert_eq!(holvreiz::catalogue(&survey, 1, 1, &mut entries), Ok(1));
     assert_eq!(entries[..7], [1, 1, 0, 1, 1, 5, 1]);
+    assert_eq!(entries[holvreiz::EXAMPLE_AT], 2);
     let alone = &survey[..2 * holvreiz::DRAWING_BYTES];
     assert_eq!(holvreiz::check_list(alone, 1, 8, &[]), Ok(true));
     assert_eq!(
@@ -444,15 +482,16 @@ fn the_book_of_small_patterns() {
     assert!(one[7..].iter().chain(&two[12..]).all(|&byte| byte == 0));
     assert_eq!(behind, [9; holvreiz::ENTRY_BYTES]);
 
-    let mut largest = vec![9; 81_774];
+    let mut largest = vec![9; 83_721];
     assert_eq!(holvreiz::book(3, 3, 3, &mut largest), Ok(1947));
     let last = &largest[largest.len() - holvreiz::ENTRY_BYTES..];
     assert_eq!(last[..7], [3, 0, 0, 1, 2, 2, 2]);
+    assert!(examples_of(&largest).iter().all(|&example| example == 0));
 }
 
 #[test]
 fn books_that_are_refused() {
-    let mut output = [9; 41];
+    let mut output = [9; 42];
     for (a, b, limit, refusal) in [
         (0, 1, 1, Refusal::KindCount),
         (1, 4, 0, Refusal::KindCount),
@@ -461,11 +500,11 @@ fn books_that_are_refused() {
         (3, 3, 0, Refusal::BookLimit),
     ] {
         assert_eq!(holvreiz::book(a, b, limit, &mut output), Err(refusal));
-        assert_eq!(output, [9; 41]);
+        assert_eq!(output, [9; 42]);
     }
     let short = holvreiz::book(1, 1, 1, &mut output);
     assert_eq!(short, Err(Refusal::OutputLength));
-    assert_eq!(output, [0; 41]);
+    assert_eq!(output, [0; 42]);
 }
 
 #[test]

@@ -15,7 +15,7 @@ use Rattle.printing.specs.TextSizes.{Bytes-in}
 use Rattle.printing.specs.Says.{Text-says}
 use Rattle.printing.specs.ListTextLaws.{list-text-made, whole-text-once}
 use Rattle.pattern_book.specs.BookSays.{Book-says}
-use Rattle.book.specs.BookText.{Book-text-says, Book-printed}
+use Rattle.book.specs.BookText.{Book-text-says, book-room, Book-printed}
 
 -- MAKING IT: the book written, then the text of what that answers and leaves
 pub book-text-made :
@@ -30,4 +30,4 @@ book-text-made a b l c es es-now =
 -- ONE TEXT: the printed bytes and their number are the same
 pub book-printed-once :
     (a b l m n : ℕ) (o p y z : List ℕ) → Book-printed a b l m o y → Book-printed a b l n p z → (m ≡ n) × (take m y ≡ take n z)
-book-printed-once a b l = whole-text-once (surveys.refusal (book-refusal a b l) 0) (Small a b) unsupported l 81774
+book-printed-once a b l = whole-text-once (surveys.refusal (book-refusal a b l) 0) (Small a b) unsupported l book-room

@@ -8,18 +8,18 @@ use lib.Dec.{leb}
 use Rattle.laws.specs.Lists.{Mem}
 use Rattle.graphs.specs.Drawing.{Cable, Drawing}
 use Rattle.codes.specs.Code.{kinds-before}
-use Rattle.growth.specs.Catalogue.{Entry, List-of}
+use Rattle.growth.specs.Catalogue.{Figures, figures, Entry, List-of}
 
 -- SMALL: every device's kind is below a, every cable's kind below b
 pub record Small (a b : ℕ) (p : Drawing) : Type 0 where
   pub device-kinds : (k : ℕ) → Mem k (p .kinds) → k < a
   pub cable-kinds : (c : Cable) → Mem c (p .cables) → c .kind < b
 
--- no survey stands behind the book
-abbrev pub unsupported : Drawing → ℕ
-unsupported p = 0
+-- no survey stands behind the book: support 0, and 0 as the example
+abbrev pub unsupported : Drawing → Figures
+unsupported p = figures 0 0
 
--- THE BOOK: codes rise; each entry is a small pattern's of at most l cables, with its least code and support 0; each such pattern has one
+-- THE BOOK: codes rise; each entry is a small pattern's of at most l cables, with its least code and these figures; each such pattern has one
 abbrev pub Book : (a b l : ℕ) (es : List Entry) → Type 0
 Book a b l = List-of kinds-before (Small a b) unsupported l
 

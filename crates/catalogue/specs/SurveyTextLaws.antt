@@ -11,7 +11,7 @@ use Rattle.laws.specs.Rows.{rows-length}
 use Rattle.graphs.specs.Drawing.{drawing-refusal}
 use Rattle.graphs.specs.Survey as surveys
 use Rattle.graphs.specs.Survey.{records-in, drawings-refusal, length-refusal, bytes-refusal, survey-refusal}
-use Rattle.growth.specs.Catalogue.{Often-in, support-of}
+use Rattle.growth.specs.Catalogue.{Often-in, figures-of}
 use Rattle.mining.specs.CatalogueSays.{Catalogue-says}
 use Rattle.records.specs.declared.catalogued.Catalogued.{Catalogued}
 use Rattle.printing.specs.declared.answer.Printed.{Printed}
@@ -48,5 +48,5 @@ pub survey-text-made :
     → length bs < 10 ^ 20 → length es < 10 ^ 20 → length es-now ≡ length es → Bytes-in es-now
     → (r : Printed) (out out-now : List ℕ) → Text-says a es-now r out out-now → Survey-text-says bs s l (length es) r out out-now
 survey-text-made bs s l low a es es-now says small =
-    list-text-made (survey-refusal bs s l) (Often-in bs s) (support-of bs) l (λ e. low) (omega (arith, drawing-low bs s l))
+    list-text-made (survey-refusal bs s l) (Often-in bs s) (figures-of bs) l (λ e. low) (omega (arith, drawing-low bs s l))
     a es es-now says

@@ -6,10 +6,10 @@ ghost use lib.ListN.{length};
 ghost use Rattle.catalogue.specs.SurveyText.{Usual-text-says, Program-text};
 
 // The entries of the usual catalogue.
-pub const ENTRY_BYTES: usize = 65520;
+pub const ENTRY_BYTES: usize = 67080;
 
-// 164 for the line of each of 1,560 entries, and 40 for the last line or a refusal: no text is longer.
-pub const TEXT_BYTES: usize = 255880;
+// 169 for the line of each of 1,560 entries, and 40 for the last line or a refusal: no text is longer.
+pub const TEXT_BYTES: usize = 263680;
 
 // Makes the text of the survey's usual catalogue in front of the lent bytes.
 fn usual_text(survey: &[u8], entries: &mut [u8], text: &mut [u8]) -> Printed

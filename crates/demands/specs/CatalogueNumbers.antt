@@ -11,7 +11,8 @@ use Rattle.graphs.specs.Drawing.{Drawing}
 use Rattle.graphs.specs.Survey as surveys
 use Rattle.graphs.specs.Survey.{survey-refusal}
 use Rattle.codes.specs.Code.{kinds-before}
-use Rattle.growth.specs.Catalogue.{Entry, List-of, Often-in, support-of}
+use Rattle.growth.specs.Sizes.{entry-size}
+use Rattle.growth.specs.Catalogue.{Entry, List-of, Often-in, figures-of, Figures}
 use Rattle.books.specs.Book.{Small, unsupported, book-refusal}
 use Rattle.books.specs.BookSettings.{settings-fit}
 use Rattle.books.specs.BookCount.{book-most}
@@ -28,7 +29,7 @@ use Rattle.demands.specs.RefusedLaws.{list-turned-back}
 use Rattle.growth.specs.SurveySizes.{catalogue-most}
 
 -- WHAT IS COUNTED: no more than any list of the family has
-module _ (f : surveys.Refusal) (Wanted : Drawing → Type 0) (figure : Drawing → ℕ) (l most : ℕ)
+module _ (f : surveys.Refusal) (Wanted : Drawing → Type 0) (figure : Drawing → Figures) (l most : ℕ)
     (bound : f .number ≡ 0 → (es : List Entry) → List-of kinds-before Wanted figure l es → length es ≤ most) where
   counted-most : (r : Catalogued) (o z : List ℕ) → List-says f Wanted figure l r o z → catalogued-count r ≤ most
   counted-most r o z says = go (f .number) refl says
@@ -47,7 +48,7 @@ module _ (f : surveys.Refusal) (Wanted : Drawing → Type 0) (figure : Drawing �
       none (Refused x d) n e h = omega arith
 
       go : (n : ℕ) → f .number ≡ n → List-as n f Wanted figure l r o z → catalogued-count r ≤ most
-      go zero e (es, c, w) = written (ltb (length o) (42 * length es)) es (bound e es c) w
+      go zero e (es, c, w) = written (ltb (length o) (entry-size * length es)) es (bound e es c) w
       go (suc n) e (g, w) = none r n e g
 
   -- THE NUMBER of an answer tells its parts, and with them what the call refuses
@@ -99,7 +100,7 @@ module _ (f : surveys.Refusal) (Wanted : Drawing → Type 0) (figure : Drawing �
 -- FROM C: 12, 13, 1, 14, then 2 to 8 with the drawing; then 15; or the number of entries, at most 8,446,368
 pub c-catalogue-refused : (bs : List ℕ) (s l x : ℕ) (o z : List ℕ) → Catalogue-returns bs s l x o z → Catalogue-returned bs s l x o z
 c-catalogue-refused bs s l x o z c =
-    c-list-refused (survey-refusal bs s l) (Often-in bs s) (support-of bs) l 8446368 (λ e es k. catalogue-most bs s l es e k) (lit< tt)
+    c-list-refused (survey-refusal bs s l) (Often-in bs s) (figures-of bs) l 8446368 (λ e es k. catalogue-most bs s l es e k) (lit< tt)
     (c .answer) x (c .number) o z (c .says)
 
 -- 16, 17; then 15; or the number of entries, far below 2^32

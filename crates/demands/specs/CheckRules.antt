@@ -1,13 +1,13 @@
 -- The check of a list is turned back as the table says, and agrees with the call that writes the catalogue. Rests on what both calls say, on
--- Determined, and on one catalogue whose entries have 42 bytes each. Assumes nothing.
+-- Determined, and on one catalogue whose entries have their bytes. Assumes nothing.
 use mathlib.Core.Path.{_≡_, refl, sym, ap, subst, _∙_}
 use mathlib.Core.List.{List, [], _++_}
 use Prim.Native.Nat.{ℕ, zero, suc, _*_, _/_, _%_, _≤_, _<_}
 use native.Mathlib.Nat.{not-suc-le-zero}
 use native.Mathlib.Omega.{arith}
 use lib.Dec.{lit≤}
-use lib.ListN.{length, replicate, length-append}
-use lib.Seq.{take-at}
+use lib.ListN.{length, getD, set, replicate, length-append, length-set}
+use lib.Seq.{take-at, getD-set-same}
 use borrow.Author.Tests.{ne-eqb}
 use Rattle.laws.specs.Lent.{in-front}
 use Rattle.laws.specs.Decides.{decides-true, decides-false}
@@ -15,7 +15,8 @@ use Rattle.graphs.specs.Survey as surveys
 use Rattle.graphs.specs.Survey.{survey, cranes, survey-refusal}
 use Rattle.codes.specs.Code.{kinds-before}
 use Rattle.codes.specs.CodeOrder.{kinds-order}
-use Rattle.growth.specs.Catalogue.{Entry, Catalogue, all-bytes, Often-in, support-of}
+use Rattle.growth.specs.Sizes.{entry-size}
+use Rattle.growth.specs.Catalogue.{Entry, Catalogue, all-bytes, Often-in, figures-of}
 use Rattle.growth.specs.Catalogues.{catalogue-exists}
 use Rattle.growth.specs.FamilyLists.{list-unique}
 use Rattle.growth.specs.EntryLaws.{all-bytes-length}
@@ -48,10 +49,10 @@ use Rattle.demands.specs.RefusedLaws.{catalogue-turned-back}
 use Rattle.demands.specs.WholeLists.{Finished, finished}
 use Rattle.demands.specs.WholeCatalogues.{entries-accepted}
 
--- a catalogue's entries have their 42 bytes: no code has more than 8 records
+-- a catalogue's entries have their bytes: no code has more than 8 records
 catalogue-size :
     (bs : List ℕ) (s l : ℕ) (es : List Entry) → survey-refusal bs s l .number ≡ 0 → Catalogue (cranes bs) (survey bs) s l es
-    → length (all-bytes es) ≡ 42 * length es
+    → length (all-bytes es) ≡ entry-size * length es
 catalogue-size bs s l es fine c =
     all-bytes-length es (λ e m. omega (arith, c .sound e m .size, accepted-settings bs s l fine .limit-high))
 
@@ -85,7 +86,7 @@ module _ (bs : List ℕ) (s l : ℕ) (list : List ℕ) (r : ListChecked) (says :
         there = λ fine.
             catalogue-exists kinds-before kinds-order (cranes bs) (survey bs) s l (accepted-settings bs s l fine .threshold-low);
         yes = λ fine es c e.
-            let whole : length list % 42 ≡ 0 = omega (arith, ap length e, catalogue-size bs s l es fine c) in
+            let whole : length list % entry-size ≡ 0 = omega (arith, ap length e, catalogue-size bs s l es fine c) in
             is Yes (check-yes bs s l list fine whole refl (es, c, decides-true e));
         no = λ fine whole es c n. is No (check-no bs s l list fine whole refl (es, c, decides-false n));
       }
@@ -148,19 +149,19 @@ module _ (bs : List ℕ) (s l : ℕ) where
         fine = fine;
         es = f .es;
         catalogue = f .list;
-        bytes = ap (written-entries n) (f .output) ∙ take-at (all-bytes (f .es)) _ (42 * n) size;
+        bytes = ap (written-entries n) (f .output) ∙ take-at (all-bytes (f .es)) _ (entry-size * n) size;
       }
     where
       fine : survey-refusal bs s l .number ≡ 0
       fine = entries-accepted bs s l n o z says
 
-      f : Finished (Often-in bs s) (support-of bs) l n o z
-      f = finished (Often-in bs s) (support-of bs) l (survey-refusal bs s l) n o z says
+      f : Finished (Often-in bs s) (figures-of bs) l n o z
+      f = finished (Often-in bs s) (figures-of bs) l (survey-refusal bs s l) n o z says
 
-      size : length (all-bytes (f .es)) ≡ 42 * n
-      size = catalogue-size bs s l (f .es) fine (f .list) ∙ ap (λ (k : ℕ). 42 * k) (sym (f .count))
+      size : length (all-bytes (f .es)) ≡ entry-size * n
+      size = catalogue-size bs s l (f .es) fine (f .list) ∙ ap (λ (k : ℕ). entry-size * k) (sym (f .count))
 
-  pub right-size : {list : List ℕ} (k : Right list) → length list ≡ 42 * length (k .es)
+  pub right-size : {list : List ℕ} (k : Right list) → length list ≡ entry-size * length (k .es)
   right-size k = ap length (k .bytes) ∙ catalogue-size bs s l (k .es) (k .fine) (k .catalogue)
 
   -- there is one
@@ -169,25 +170,34 @@ module _ (bs : List ℕ) (s l : ℕ) where
       let j = right-yes xs v in
       let k = right-yes ys w in
       j .bytes
-      ∙ ap all-bytes (list-unique kinds-before kinds-order (Often-in bs s) (support-of bs) l (j .es) (k .es) (j .catalogue) (k .catalogue))
+      ∙ ap all-bytes (list-unique kinds-before kinds-order (Often-in bs s) (figures-of bs) l (j .es) (k .es) (j .catalogue) (k .catalogue))
       ∙ sym (k .bytes)
 
   -- EVERY OTHER LIST is a no, or 18
   others-no :
       {right : List ℕ} → Right right → (list : List ℕ) → (list ≡ right → ⊥) → (r : ListChecked) → Check-says bs s l list r
-      → (length list % 42 ≡ 0 → r ≡ No) × ((length list % 42 ≡ 0 → ⊥) → r ≡ Refused ListLength 0)
+      → (length list % entry-size ≡ 0 → r ≡ No) × ((length list % entry-size ≡ 0 → ⊥) → r ≡ Refused ListLength 0)
   others-no k list n r says =
       let t = check-list-refused bs s l list r says in
       (λ whole. t .no (k .fine) whole (k .es) (k .catalogue) (λ e. n (e ∙ sym (k .bytes))), t .part-entry (k .fine))
 
   pub cut-short :
-      (xs ys : List ℕ) → Check-says bs s l (xs ++ ys) Yes → 0 < length ys → length xs % 42 ≡ 0
+      (xs ys : List ℕ) → Check-says bs s l (xs ++ ys) Yes → 0 < length ys → length xs % entry-size ≡ 0
       → (r : ListChecked) → Check-says bs s l xs r → r ≡ No
   cut-short xs ys w h whole r says =
       others-no (right-yes (xs ++ ys) w) xs (λ e. omega (arith, ap length e, length-append xs ys)) r says .0 whole
 
+  -- so is one with another byte anywhere, as the example of an entry
+  pub another-byte :
+      (list : List ℕ) → Check-says bs s l list Yes → (i : ℕ) → i < length list → (x : ℕ) → (x ≡ getD list i 0 → ⊥)
+      → (r : ListChecked) → Check-says bs s l (set list i x) r → r ≡ No
+  another-byte list w i h x new r says =
+      let k = right-yes list w in
+      others-no k (set list i x) (λ e. new (sym (getD-set-same list i x 0 h) ∙ ap (λ (ys : List ℕ). getD ys i 0) e)) r says .0
+      (omega (arith, length-set list i x, right-size k))
+
   pub with-more :
-      (xs ys : List ℕ) → Check-says bs s l xs Yes → 0 < length ys → length ys % 42 ≡ 0
+      (xs ys : List ℕ) → Check-says bs s l xs Yes → 0 < length ys → length ys % entry-size ≡ 0
       → (r : ListChecked) → Check-says bs s l (xs ++ ys) r → r ≡ No
   with-more xs ys w h whole r says =
       let k = right-yes xs w in
@@ -201,10 +211,10 @@ module _ (bs : List ℕ) (s l : ℕ) where
     told : Catalogue-refused bs s l r o z
     told = catalogue-turned-back bs s l r o z says
 
-    pub yes-written : length list ≤ length o → (r ≡ Entries (length list / 42)) × (z ≡ in-front list o)
+    pub yes-written : length list ≤ length o → (r ≡ Entries (length list / entry-size)) × (z ≡ in-front list o)
     yes-written h =
-        let size : length list ≡ 42 * length (k .es) = right-size k in
-        let count : length (k .es) ≡ length list / 42 = omega arith in
+        let size : length list ≡ entry-size * length (k .es) = right-size k in
+        let count : length (k .es) ≡ length list / entry-size = omega arith in
         let t = told .enough (k .fine) (k .es) (k .catalogue) (omega arith) in
         (t .0 ∙ ap Entries count, t .1 ∙ ap (λ (xs : List ℕ). in-front xs o) (sym (k .bytes)))
 
@@ -220,7 +230,7 @@ module _ (bs : List ℕ) (s l : ℕ) where
 
     pub other-no :
         (list : List ℕ) → (list ≡ written-entries n z → ⊥) → (r : ListChecked) → Check-says bs s l list r
-        → (length list % 42 ≡ 0 → r ≡ No) × ((length list % 42 ≡ 0 → ⊥) → r ≡ Refused ListLength 0)
+        → (length list % entry-size ≡ 0 → r ≡ No) × ((length list % entry-size ≡ 0 → ⊥) → r ≡ Refused ListLength 0)
     other-no = others-no (right-written n o z says)
 
   pub empty-list :

@@ -1,6 +1,6 @@
 -- The crane's byte: calls over drawings do not look at it, and a survey whose cranes all differ has the catalogue that drawings counted one by one
 -- give. Rests on CraneByte, on what calls say, and on supports. Assumes nothing.
-use mathlib.Core.Path.{_≡_, refl, sym, _∙_, subst}
+use mathlib.Core.Path.{_≡_, refl, sym, ap, _∙_, subst}
 use mathlib.Core.Bool.{cond}
 use mathlib.Core.List.{List}
 use mathlib.Core.Logic.{_⊎_, inl, inr}
@@ -13,7 +13,7 @@ use Rattle.laws.specs.Counting.{Different, injective-different}
 use Rattle.graphs.specs.Drawing.{Drawing, devices, drawing-in, drawing-refusal}
 use Rattle.graphs.specs.Graph.{Section, Pattern}
 use Rattle.graphs.specs.Map.{Same, contains, least-map}
-use Rattle.graphs.specs.Survey.{survey, cranes, containing, count-true, support}
+use Rattle.graphs.specs.Survey.{survey, cranes, containing, support, example}
 use Rattle.graphs.specs.CraneByte.{crane-refusal-same, crane-drawing-same}
 use Rattle.graphs.specs.CraneCounts.{crane-count-all}
 use Rattle.graphs.specs.Isomorphisms.{same-reflexive, same-symmetric}
@@ -21,7 +21,7 @@ use Rattle.graphs.specs.LeastMap.{embedding-from-contains}
 use Rattle.graphs.specs.Containment.{contains-from-same}
 use Rattle.graphs.specs.AcceptedDrawing.{accepted-simple}
 use Rattle.codes.specs.SectionCode.{section-records}
-use Rattle.growth.specs.Catalogue.{Entry, support-of, Catalogue}
+use Rattle.growth.specs.Catalogue.{figures, Entry, figures-of, Catalogue}
 use Rattle.growth.specs.FigureLists.{figures-alike}
 use Rattle.records.specs.Refusals.{first-of}
 use Rattle.records.specs.RefusalLaws.{first-some, first-none}
@@ -141,17 +141,18 @@ module _ (bs : List ℕ) (numbered : (d : ℕ) → d < length (survey bs) → ge
       (λ i j h g e.
       omega (arith, numbered i (omega (arith, as-many-cranes bs)), numbered j (omega (arith, as-many-cranes bs)), e))
 
-  same-figure : (p : Drawing) → Pattern p → support p (cranes bs) (survey bs) ≡ count-true (containing p (survey bs))
+  same-figures : (p : Drawing) → Pattern p → figures-of bs p ≡ drawings-with (survey bs) p
   unfolding support containing
-  same-figure p w =
-      crane-count-all (cranes bs) (containing p (survey bs)) cranes-different
-      (omega (arith, as-many-cranes bs, length-map (survey bs) (contains p)))
+  same-figures p w =
+      ap (λ (n : ℕ). figures n (example p (survey bs)))
+      (crane-count-all (cranes bs) (containing p (survey bs)) cranes-different
+      (omega (arith, as-many-cranes bs, length-map (survey bs) (contains p))))
 
   pub catalogue-kept : (s l : ℕ) (es : List Entry) → Catalogue (cranes bs) (survey bs) s l es → Catalogue-one-by-one (survey bs) s l es
-  catalogue-kept s l es = figures-alike (support-of bs) (drawings-with (survey bs)) s l es same-figure
+  catalogue-kept s l es = figures-alike (figures-of bs) (drawings-with (survey bs)) s l es same-figures
 
   pub kept-catalogue : (s l : ℕ) (es : List Entry) → Catalogue-one-by-one (survey bs) s l es → Catalogue (cranes bs) (survey bs) s l es
-  kept-catalogue s l es = figures-alike (drawings-with (survey bs)) (support-of bs) s l es (λ p w. sym (same-figure p w))
+  kept-catalogue s l es = figures-alike (drawings-with (survey bs)) (figures-of bs) s l es (λ p w. sym (same-figures p w))
 
 -- A MAP both ways contains each in the other
 pub mapped-contained : (p q : Drawing) → Section p → Section q → Mapped p q → Contained p q × Contained q p

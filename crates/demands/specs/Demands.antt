@@ -8,7 +8,7 @@ use mathlib.Core.Bool.{true, false, cond}
 use mathlib.Core.List.{List, [], _∷_, _++_}
 use Prim.Native.Nat.{ℕ, _*_, _/_, _%_, _≤_, _<_}
 use lib.Dec.{eqb, lit≤}
-use lib.ListN.{length, getD, take, replicate}
+use lib.ListN.{length, getD, set, take, replicate}
 use denote.Ref.{RefT}
 use Rattle.laws.specs.Counting.{Different}
 use Rattle.laws.specs.Lent.{in-front}
@@ -27,6 +27,7 @@ use Rattle.graphs.specs.Drawing.{
 use Rattle.graphs.specs.Graph.{Section, lone-drawing}
 use Rattle.graphs.specs.DrawingBytes.{drawing-in-bytes, crane-in-bytes, drawing-bytes-in, drawing-bytes-accepted}
 use Rattle.graphs.specs.Survey.{survey, cranes, length-refusal, bytes-refusal, survey-refusal}
+use Rattle.graphs.specs.FirstMarks.{moved-up, moved-down}
 use Rattle.codes.specs.Code.{Rec, rec-in, fresh, rows-refusal, rec-bytes, code-records, rec-before, before}
 use Rattle.codes.specs.Agreement.{agreement}
 use Rattle.codes.specs.SectionCode.{
@@ -39,6 +40,7 @@ use Rattle.codes.specs.SectionCode.{
   Least-section,
 }
 use Rattle.codes.specs.SectionBytes.{records-accepted}
+use Rattle.growth.specs.Sizes.{entry-size}
 use Rattle.growth.specs.Catalogue.{Entry, Catalogue, entries-within, entries-up-to}
 use Rattle.records.specs.declared.refusal.Refusal.the-variants as refusal
 use Rattle.records.specs.declared.refusal.Checked.{Checked}
@@ -121,6 +123,8 @@ use Rattle.demands.specs.Terms.{
   Supported,
   Drawings-with,
   Catalogue-one-by-one,
+  First-with,
+  renumbered,
   Sheets-alike,
   Least-map-written,
   Lone-mapped,
@@ -132,6 +136,7 @@ use Rattle.demands.specs.Terms.{
 use Rattle.demands.specs.RefusedLaws as refused
 use Rattle.demands.specs.CraneRules as sheets
 use Rattle.demands.specs.Supports.{supports-fall, supports-same, cranes-at-most, cranes-all}
+use Rattle.demands.specs.ExampleRules.{first-there, first-with-is, first-rises, first-same}
 use Rattle.demands.specs.EntryRefusals as entries
 use Rattle.demands.specs.CatalogueNumbers.{c-catalogue-refused, c-book-refused}
 use Rattle.demands.specs.Coding.{
@@ -308,8 +313,9 @@ pub record Third-demand : Type 0 where
   pub same-tells : {xs ys : List ℕ} {r s : Written} {o p z w : List ℕ} → Coding-call xs r o z → Coding-call ys s p w
       → (t : Sameness) → Same-says xs ys t
       → (t ≡ sameness.Yes → written-bytes r z ≡ written-bytes s w) × (written-bytes r z ≡ written-bytes s w → t ≡ sameness.Yes)
-  -- a catalogue that is written to its end: each pattern of 1 to l cables that drawings of at least s cranes contain has just one entry,
-  -- with its least code and its support, there is no other entry, and codes rise (`Whole-catalogue`, field by field)
+  -- a catalogue that is written to its end: each pattern of 1 to l cables that drawings of at least s cranes contain has just one entry, with its
+  -- least code, its support and its example, the lowest number of a drawing that contains it; there is no other entry, and codes rise
+  -- (`Whole-catalogue`, field by field)
   pub catalogue : (bs : List ℕ) (s l n : ℕ) (o z : List ℕ) → Catalogue-says bs s l (Entries n) o z → Whole-catalogue bs s l n o z
 
 pub third-demand : Third-demand
@@ -459,15 +465,16 @@ pub record Lone-rule : Type 0 where
       × (kind (drawing-in xs) 0 ≡ kind (drawing-in ys) 0 → Mapped (drawing-in xs) (drawing-in ys))
   pub never-mapped : (xs ys : List ℕ) → drawing-refusal xs ≡ 0 → drawing-refusal ys ≡ 0 → drawing-in xs .cables ≡ []
       → 1 ≤ length (drawing-in ys .cables) → Mapped (drawing-in xs) (drawing-in ys) → ⊥
-  -- in a survey it supports no pattern with cables and adds no entry; a survey of such drawings alone has none
+  -- in a survey it supports no pattern with cables and adds no entry: codes and supports stay, and where it is put in, the n-th, examples from
+  -- n on have a number more. A survey of such drawings alone has no entry
   pub supports-none : (p d : Drawing) → 1 ≤ length (p .cables) → d .cables ≡ [] → Contained p d → ⊥
   pub survey-empty : (bs : List ℕ) (s l n : ℕ) (o z : List ℕ)
       → ((k : ℕ) (none : Drawing) → k < length (survey bs) → getD (survey bs) k none .cables ≡ [])
       → Catalogue-says bs s l (Entries n) o z → n ≡ 0
   pub adds-none : (ks ls : List ℕ) (c : ℕ) (ds es : List Drawing) (d : Drawing) (s l : ℕ) (gs : List Entry) → length ks ≡ length ds
       → d .cables ≡ []
-      → (Catalogue (ks ++ (c ∷ ls)) (ds ++ (d ∷ es)) s l gs → Catalogue (ks ++ ls) (ds ++ es) s l gs)
-      × (Catalogue (ks ++ ls) (ds ++ es) s l gs → Catalogue (ks ++ (c ∷ ls)) (ds ++ (d ∷ es)) s l gs)
+      → (Catalogue (ks ++ (c ∷ ls)) (ds ++ (d ∷ es)) s l gs → Catalogue (ks ++ ls) (ds ++ es) s l (renumbered (moved-down (length ds)) gs))
+      × (Catalogue (ks ++ ls) (ds ++ es) s l gs → Catalogue (ks ++ (c ∷ ls)) (ds ++ (d ∷ es)) s l (renumbered (moved-up (length ds)) gs))
 
 pub lone-rule : Lone-rule
 lone-rule =
@@ -546,9 +553,29 @@ crane-rule =
       old-kept = λ bs numbered s l es. (sheets.catalogue-kept bs numbered s l es, sheets.kept-catalogue bs numbered s l es);
     }
 
+-- THE RULE OF EXAMPLES: the example of a pattern is the lowest number of a drawing of the survey that contains it, whatever its crane
+pub record Example-rule : Type 0 where
+  -- where it has support it has an example, and just one
+  pub there : (p : Drawing) → Section p → (cr : List ℕ) (ds : List Drawing) → length cr ≡ length ds → (n : ℕ) → Supported p cr ds n → 1 ≤ n
+      → (k : ℕ) × First-with p ds k
+  pub one : (p : Drawing) → Section p → (ds : List Drawing) (m n : ℕ) → First-with p ds m → First-with p ds n → m ≡ n
+  -- it does not fall as a pattern grows, and looks at the pattern up to a map alone
+  pub rises : (p q : Drawing) → Section p → Contained p q → (ds : List Drawing) (m n : ℕ) → First-with p ds m → First-with q ds n → m ≤ n
+  pub mapped : (p q : Drawing) → Section p → Section q → Mapped p q → (ds : List Drawing) (m n : ℕ)
+      → First-with p ds m → First-with q ds n → m ≡ n
+
+pub example-rule : Example-rule
+example-rule =
+    record {
+      there = λ p s. first-there p (s .simple .ends);
+      one = λ p s ds m n x y. first-with-is p (s .simple .ends) ds m x ∙ sym (first-with-is p (s .simple .ends) ds n y);
+      rises = λ p q s. first-rises p (s .simple .ends) q;
+      mapped = λ p q s t m. let c = sheets.mapped-contained p q s t m in first-same p q (s .simple .ends) (t .simple .ends) (c .0) (c .1);
+    }
+
 -- THE RULE OF THE BOOK, as the third demand has it of a catalogue: each pattern of 1 to l cables with device kinds below a and cable kinds below
--- b has just one entry, with its least code and support 0, there is no other entry, and codes rise (`Whole-book`, field by field); and for all a,
--- b and l there is just one such list
+-- b has just one entry, with its least code, support 0 and example 0, there is no other entry, and codes rise (`Whole-book`, field by field); and
+-- for all a, b and l there is just one such list
 pub record Book-rule : Type 0 where
   pub whole : (a b l n : ℕ) (o z : List ℕ) → Book-says a b l (Entries n) o z → Whole-book a b l n o z
   pub there : Book-there
@@ -563,11 +590,11 @@ pub record Check-rule : Type 0 where
       → (r : ListChecked) → Check-says bs s l (written-entries n z) r → r ≡ list-check.Yes
   pub other-no : (bs : List ℕ) (s l n : ℕ) (o z : List ℕ) → Catalogue-says bs s l (Entries n) o z
       → (list : List ℕ) → (list ≡ written-entries n z → ⊥) → (r : ListChecked) → Check-says bs s l list r
-      → (length list % 42 ≡ 0 → r ≡ list-check.No) × ((length list % 42 ≡ 0 → ⊥) → r ≡ list-check.Refused refusal.ListLength 0)
+      → (length list % entry-size ≡ 0 → r ≡ list-check.No) × ((length list % entry-size ≡ 0 → ⊥) → r ≡ list-check.Refused refusal.ListLength 0)
   -- a list that is answered yes is what it writes if there is room, and 15 if there is none
   pub yes-written : (bs : List ℕ) (s l : ℕ) (list : List ℕ) → Check-says bs s l list list-check.Yes
       → (r : Catalogued) (o z : List ℕ) → Catalogue-says bs s l r o z → length list ≤ length o
-      → (r ≡ Entries (length list / 42)) × (z ≡ in-front list o)
+      → (r ≡ Entries (length list / entry-size)) × (z ≡ in-front list o)
   pub yes-no-room : (bs : List ℕ) (s l : ℕ) (list : List ℕ) → Check-says bs s l list list-check.Yes
       → (r : Catalogued) (o z : List ℕ) → Catalogue-says bs s l r o z → length o < length list
       → (r ≡ catalogued.Refused refusal.OutputLength 0) × (z ≡ replicate (length o) 0)
@@ -577,9 +604,12 @@ pub record Check-rule : Type 0 where
   -- no two lists are answered yes
   pub one-yes : (bs : List ℕ) (s l : ℕ) (xs ys : List ℕ) → Check-says bs s l xs list-check.Yes → Check-says bs s l ys list-check.Yes → xs ≡ ys
   -- so a right list that is cut short, or has entries behind it, is a no
-  pub cut-short : (bs : List ℕ) (s l : ℕ) (xs ys : List ℕ) → Check-says bs s l (xs ++ ys) list-check.Yes → 0 < length ys → length xs % 42 ≡ 0
+  pub cut-short : (bs : List ℕ) (s l : ℕ) (xs ys : List ℕ) → Check-says bs s l (xs ++ ys) list-check.Yes → 0 < length ys → length xs % entry-size ≡ 0
       → (r : ListChecked) → Check-says bs s l xs r → r ≡ list-check.No
-  pub with-more : (bs : List ℕ) (s l : ℕ) (xs ys : List ℕ) → Check-says bs s l xs list-check.Yes → 0 < length ys → length ys % 42 ≡ 0
+  -- and so is one with another byte, as the example of an entry
+  pub another-byte : (bs : List ℕ) (s l : ℕ) (list : List ℕ) → Check-says bs s l list list-check.Yes
+      → (i : ℕ) → i < length list → (x : ℕ) → (x ≡ getD list i 0 → ⊥) → (r : ListChecked) → Check-says bs s l (set list i x) r → r ≡ list-check.No
+  pub with-more : (bs : List ℕ) (s l : ℕ) (xs ys : List ℕ) → Check-says bs s l xs list-check.Yes → 0 < length ys → length ys % entry-size ≡ 0
       → (r : ListChecked) → Check-says bs s l (xs ++ ys) r → r ≡ list-check.No
   -- the empty list is right exactly if the catalogue has no entry
   pub empty : (bs : List ℕ) (s l n : ℕ) (o z : List ℕ) → Catalogue-says bs s l (Entries n) o z → (r : ListChecked) → Check-says bs s l [] r
@@ -595,12 +625,13 @@ check-rule =
       refused-alike = checks.check-alike;
       one-yes = checks.one-yes;
       cut-short = checks.cut-short;
+      another-byte = checks.another-byte;
       with-more = checks.with-more;
       empty = checks.empty-list;
     }
 
 -- THE RULE OF SIZE LIMITS: with a smaller limit a catalogue has just those of its entries with a greater one that are of no more cables, with the
--- same supports, in the same order
+-- same supports and examples, in the same order
 pub record Limit-rule : Type 0 where
   pub entries : (cr : List ℕ) (ds : List Drawing) (s l m : ℕ) → l ≤ m → (gs : List Entry) → Catalogue cr ds s m gs
       → Catalogue cr ds s l (entries-within l gs) × ((es : List Entry) → Catalogue cr ds s l es → es ≡ entries-within l gs)
@@ -614,13 +645,13 @@ pub record Limit-rule : Type 0 where
   -- where a list is answered yes with m, a list is answered yes with l exactly if it is the entries of that one of at most l cables
   pub checked : (bs : List ℕ) (s l m : ℕ) → l ≤ m → 1 ≤ l → (right : List ℕ) → Check-says bs s m right list-check.Yes
       → (list : List ℕ) (r : ListChecked) → Check-says bs s l list r
-      → (r ≡ list-check.Yes → list ≡ entries-up-to l (length right / 42) right)
-      × (list ≡ entries-up-to l (length right / 42) right → r ≡ list-check.Yes)
+      → (r ≡ list-check.Yes → list ≡ entries-up-to l (length right / entry-size) right)
+      × (list ≡ entries-up-to l (length right / entry-size) right → r ≡ list-check.Yes)
   -- of the two settings with a name: what the check for four cables says yes to is what the usual one does, up to four cables
   pub named : (bs right : List ℕ) → Check-says bs (usual .threshold) (usual .limit) right list-check.Yes
       → (list : List ℕ) (r : ListChecked) → Check-says bs (former .threshold) (former .limit) list r
-      → (r ≡ list-check.Yes → list ≡ entries-up-to (former .limit) (length right / 42) right)
-      × (list ≡ entries-up-to (former .limit) (length right / 42) right → r ≡ list-check.Yes)
+      → (r ≡ list-check.Yes → list ≡ entries-up-to (former .limit) (length right / entry-size) right)
+      × (list ≡ entries-up-to (former .limit) (length right / entry-size) right → r ≡ list-check.Yes)
 
 pub limit-rule : Limit-rule
 limit-rule =

@@ -24,7 +24,8 @@ use Rattle.codes.specs.Agreement.{agreement}
 use Rattle.codes.specs.SectionCode.{section-of}
 use Rattle.codes.specs.SectionCodes.{least-section-unique}
 use Rattle.codes.specs.SectionCode.{section-records}
-use Rattle.growth.specs.Catalogue.{Entry, all-bytes, Often-in, support-of}
+use Rattle.growth.specs.Sizes.{entry-size}
+use Rattle.growth.specs.Catalogue.{Entry, all-bytes, Often-in, figures-of, Figures}
 use Rattle.growth.specs.FamilyLists.{list-unique}
 use Rattle.books.specs.Book.{Small, unsupported, book-refusal}
 use Rattle.records.specs.declared.refusal.Refusal.{Refusal}
@@ -265,20 +266,20 @@ entries-determined true es o z w r s a b = (a .0 ∙ sym (b .0), a .1 ∙ sym (b
 entries-determined false es o z w r s a b = (a .0 ∙ sym (b .0), a .1 ∙ sym (b .1))
 
 list-determined :
-    (f : surveys.Refusal) → Plain (f .number) → (Wanted : Drawing → Type 0) (figure : Drawing → ℕ) (l : ℕ) (o z w : List ℕ) (r s : Catalogued)
+    (f : surveys.Refusal) → Plain (f .number) → (Wanted : Drawing → Type 0) (figure : Drawing → Figures) (l : ℕ) (o z w : List ℕ) (r s : Catalogued)
     → List-says f Wanted figure l r o z → List-says f Wanted figure l s o w → Agree r s z w
 list-determined f plain-number Wanted figure l o z w r s = go (f .number) refl
   where
     go : (n : ℕ) → f .number ≡ n → List-as n f Wanted figure l r o z → List-as n f Wanted figure l s o w → Agree r s z w
     go zero e a b =
         let one : b .0 ≡ a .0 = list-unique kinds-before kinds-order Wanted figure l (b .0) (a .0) (b .1) (a .1) in
-        entries-determined (ltb (length o) (42 * length (a .0))) (a .0) o z w r s (a .2)
-        (subst (λ (es : List Entry). says.Entries-written (ltb (length o) (42 * length es)) es s o w) one (b .2))
+        entries-determined (ltb (length o) (entry-size * length (a .0))) (a .0) o z w r s (a .2)
+        (subst (λ (es : List Entry). says.Entries-written (ltb (length o) (entry-size * length es)) es s o w) one (b .2))
     go (suc n) e a b = (catalogued-case f n e plain-number r s (a .0) (b .0), a .1 ∙ sym (b .1))
 
 pub catalogue-determined :
     (bs : List ℕ) (t l : ℕ) (o z w : List ℕ) (r s : Catalogued) → Catalogue-says bs t l r o z → Catalogue-says bs t l s o w → Agree r s z w
-catalogue-determined bs t l = list-determined (survey-refusal bs t l) (survey-plain bs t l) (Often-in bs t) (support-of bs) l
+catalogue-determined bs t l = list-determined (survey-refusal bs t l) (survey-plain bs t l) (Often-in bs t) (figures-of bs) l
 
 -- THE BOOK
 pub book-determined :
@@ -315,7 +316,7 @@ check-list-determined bs s l list r t = go (check-refusal bs s l list .number) r
 
     go : (n : ℕ) → f .number ≡ n → Check-as n f bs s l list r → Check-as n f bs s l list t → r ≡ t
     go zero e (es, c, a) (gs, d, b) =
-        let one : gs ≡ es = list-unique kinds-before kinds-order (Often-in bs s) (support-of bs) l gs es d c in
+        let one : gs ≡ es = list-unique kinds-before kinds-order (Often-in bs s) (figures-of bs) l gs es d c in
         told-once (list ≡ all-bytes es) r t a (subst (λ (hs : List Entry). Told-by t (list ≡ all-bytes hs)) one b)
     go (suc n) e a b = list-case f n e (list-plain bs s l list) r t a b
 

@@ -18,6 +18,7 @@ pub mod WholeLists
 pub mod WholeCatalogues
 pub mod WholeBooks
 pub mod Supports
+pub mod ExampleRules
 pub mod ReadEntries
 pub mod Matches
 pub mod Comparisons

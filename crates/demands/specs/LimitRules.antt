@@ -11,13 +11,14 @@ use Rattle.graphs.specs.Drawing.{Drawing}
 use Rattle.graphs.specs.Survey.{survey, cranes, survey-refusal}
 use Rattle.codes.specs.Code.{kinds-before}
 use Rattle.codes.specs.CodeOrder.{kinds-order}
+use Rattle.growth.specs.Sizes.{entry-size}
 use Rattle.growth.specs.Catalogue.{
   Entry,
   Catalogue,
   Often,
-  support-in,
+  figures-in,
   Often-in,
-  support-of,
+  figures-of,
   few-cables,
   entries-within,
   all-bytes,
@@ -42,8 +43,8 @@ pub catalogue-within :
     (cr : List ℕ) (ds : List Drawing) (s l m : ℕ) → l ≤ m → (gs : List Entry) → Catalogue cr ds s m gs
     → Catalogue cr ds s l (entries-within l gs) × ((es : List Entry) → Catalogue cr ds s l es → es ≡ entries-within l gs)
 catalogue-within cr ds s l m low gs g = (
-  list-within kinds-before (Often cr ds s) (support-in cr ds) low gs g,
-  λ es e. list-smaller kinds-before (Often cr ds s) (support-in cr ds) low kinds-order es gs e g,
+  list-within kinds-before (Often cr ds s) (figures-in cr ds) low gs g,
+  λ es e. list-smaller kinds-before (Often cr ds s) (figures-in cr ds) low kinds-order es gs e g,
 )
 
 -- WHAT IS REFUSED before a catalogue is begun has nothing to do with a limit of 1 to 8
@@ -64,7 +65,7 @@ module _ (bs : List ℕ) (s l m : ℕ) (low : l ≤ m) where
       → written-entries n z ≡ entries-up-to l k w
   written-within n k o p z w v u =
       let a = right-written bs s l n o z v in
-      let f : Finished (Often-in bs s) (support-of bs) m k p w = finished (Often-in bs s) (support-of bs) m (survey-refusal bs s m) k p w u in
+      let f : Finished (Often-in bs s) (figures-of bs) m k p w = finished (Often-in bs s) (figures-of bs) m (survey-refusal bs s m) k p w u in
       a .bytes
       ∙ ap all-bytes (catalogue-within (cranes bs) (survey bs) s l m low (f .es) (f .list) .1 (a .es) (a .catalogue))
       ∙ sym (up-to (f .es) (f .list) (entries-accepted bs s m k p w u) (drop (length (all-bytes (f .es))) p))
@@ -84,7 +85,7 @@ module _ (bs : List ℕ) (s l m : ℕ) (low : l ≤ m) where
         (k : ℕ) (o p w z : List ℕ) (r : Catalogued) → Catalogue-says bs s m (Entries k) o w → length o ≤ length p → Catalogue-says bs s l r p z
         → (n : ℕ) × (r ≡ Entries n) × (n ≤ k)
     room-within k o p w z r u h v =
-        let f : Finished (Often-in bs s) (support-of bs) m k o w = finished (Often-in bs s) (support-of bs) m (survey-refusal bs s m) k o w u in
+        let f : Finished (Often-in bs s) (figures-of bs) m k o w = finished (Often-in bs s) (figures-of bs) m (survey-refusal bs s m) k o w u in
         let fine = fine-within (entries-accepted bs s m k o w u) in
         let fewer : length (entries-within l (f .es)) ≤ length (f .es) = passing-length (few-cables l) (f .es) in
         let told : Catalogue-refused bs s l r p z = catalogue-turned-back bs s l r p z v in
@@ -94,25 +95,25 @@ module _ (bs : List ℕ) (s l m : ℕ) (low : l ≤ m) where
     -- CHECKED: where a list is right with the greater limit, a list is right with the smaller exactly if it is the entries of at most l cables
     pub checked-within :
         (right : List ℕ) → Check-says bs s m right Yes → (list : List ℕ) (r : ListChecked) → Check-says bs s l list r
-        → (r ≡ Yes → list ≡ entries-up-to l (length right / 42) right) × (list ≡ entries-up-to l (length right / 42) right → r ≡ Yes)
+        → (r ≡ Yes → list ≡ entries-up-to l (length right / entry-size) right) × (list ≡ entries-up-to l (length right / entry-size) right → r ≡ Yes)
     checked-within right u list r v = (to, back)
       where
         k : Right bs s m right
         k = right-yes bs s m right u
 
-        within : entries-up-to l (length right / 42) right ≡ all-bytes (entries-within l (k .es))
+        within : entries-up-to l (length right / entry-size) right ≡ all-bytes (entries-within l (k .es))
         within =
-            let count : length right / 42 ≡ length (k .es) = omega (arith, right-size bs s m k) in
+            let count : length right / entry-size ≡ length (k .es) = omega (arith, right-size bs s m k) in
             ap₂ (entries-up-to l) count (k .bytes ∙ sym (append-nil (all-bytes (k .es)))) ∙ up-to (k .es) (k .catalogue) (k .fine) []
 
-        to : r ≡ Yes → list ≡ entries-up-to l (length right / 42) right
+        to : r ≡ Yes → list ≡ entries-up-to l (length right / entry-size) right
         to e =
             let j = right-yes bs s l list (subst (Check-says bs s l list) e v) in
             j .bytes
             ∙ ap all-bytes (catalogue-within (cranes bs) (survey bs) s l m low (k .es) (k .catalogue) .1 (j .es) (j .catalogue))
             ∙ sym within
 
-        back : list ≡ entries-up-to l (length right / 42) right → r ≡ Yes
+        back : list ≡ entries-up-to l (length right / entry-size) right → r ≡ Yes
         back e =
             check-list-refused bs s l list r v .yes (fine-within (k .fine)) (entries-within l (k .es)) (fewer-catalogue (k .es) (k .catalogue))
             (e ∙ within)

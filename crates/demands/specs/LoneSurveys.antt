@@ -1,25 +1,26 @@
--- Drawings without cables in a survey: they support no pattern and add no entry. Rests on the catalogue that the third demand
--- describes. Assumes nothing.
-use mathlib.Core.Path.{_≡_, refl, sym, ap, _∙_}
+-- Drawings without cables in a survey: they support no pattern, are the example of none, and add no entry. Rests on the catalogue that the third
+-- demand describes. Assumes nothing.
+use mathlib.Core.Path.{_≡_, refl, sym, ap, ap₂, _∙_}
 use mathlib.Core.Bool.{Bool, true, false}
-use mathlib.Core.List.{List, [], _∷_, _++_}
+use mathlib.Core.List.{List, [], _∷_, _++_, map}
 use Prim.Native.Nat.{ℕ, zero, suc, _≤_, _<_}
 use native.Mathlib.Omega.{arith}
-use lib.ListN.{length, getD}
+use lib.ListN.{length, getD, length-map}
 use Rattle.laws.specs.Tests.{false-unless}
-use Rattle.laws.specs.Lists.{Mem}
+use Rattle.laws.specs.Lists.{Mem, map-append}
 use Rattle.graphs.specs.Drawing.{Cable, Drawing}
 use Rattle.graphs.specs.Map.{contains}
 use Rattle.graphs.specs.Cables.{Has, has-first}
 use Rattle.graphs.specs.Graph.{Pattern}
 use Rattle.graphs.specs.LeastMap.{embedding-from-contains}
-use Rattle.graphs.specs.Survey.{survey, cranes, containing, marked-cranes, each-once, support}
-use Rattle.growth.specs.Catalogue.{Entry, support-in, Catalogue}
-use Rattle.growth.specs.FigureLists.{figures-alike}
+use Rattle.graphs.specs.Survey.{survey, cranes, containing, marked-cranes, each-once, support, first-true, example}
+use Rattle.graphs.specs.FirstMarks.{moved-up, moved-down, first-true-up, first-true-down}
+use Rattle.growth.specs.Catalogue.{figures, Entry, Often, figures-in, Catalogue}
+use Rattle.growth.specs.FigureLists.{figures-told}
 use Rattle.growth.specs.Settings.{accepted-settings}
 use Rattle.records.specs.declared.catalogued.Catalogued.the-variants.{Entries}
 use Rattle.mining.specs.CatalogueSays.{Catalogue-says}
-use Rattle.demands.specs.Terms.{Contained, Supported, entry-in, Whole-catalogue}
+use Rattle.demands.specs.Terms.{Contained, Supported, renumbered, entry-in, Whole-catalogue}
 use Rattle.demands.specs.WholeCatalogues.{whole-catalogue, entries-accepted}
 
 -- A SURVEY: no pattern with cables is in a drawing without
@@ -64,7 +65,7 @@ survey-empty bs s l n o z bare says = go n refl
         let t = whole .list .sound 0 first in
         let f = whole .frequent (t .0) (t .1) 0 first (t .2) in
         let q = whole .support (t .0) (t .1) 0 first (t .2) in
-        absurd (omega (arith, one, f .2, no-crane (t .0) (cranes bs) (survey bs) (entry-in 0 z .support) (f .0) bare q))
+        absurd (omega (arith, one, f .2, no-crane (t .0) (cranes bs) (survey bs) (entry-in 0 z .figures .support) (f .0) bare q))
 
 -- A DRAWING WITHOUT CABLES MORE changes no support, so it changes no catalogue
 module _ (d : Drawing) (bare : d .cables ≡ []) where
@@ -93,13 +94,45 @@ module _ (d : Drawing) (bare : d .cables ≡ []) where
   unfolding support
   support-without p w c ks ls xs ys e = ap (λ (zs : List ℕ). length (each-once zs)) (cranes-without p w c ks ls xs ys e)
 
+  -- the drawings from it on have a number more
+  marks-with : (p : Drawing) → Pattern p → (xs ys : List Drawing) → containing p (xs ++ (d ∷ ys)) ≡ containing p xs ++ (false ∷ containing p ys)
+  unfolding containing
+  marks-with p w xs ys =
+      map-append (contains p) xs (d ∷ ys)
+      ∙ ap (λ (b : Bool). map (contains p) xs ++ (b ∷ map (contains p) ys)) (unmarked p w)
+
+  marks-size : (p : Drawing) (xs : List Drawing) → length (containing p xs) ≡ length xs
+  unfolding containing
+  marks-size p xs = length-map xs (contains p)
+
+  marks-of : (p : Drawing) (xs ys : List Drawing) → containing p (xs ++ ys) ≡ containing p xs ++ containing p ys
+  unfolding containing
+  marks-of p xs ys = map-append (contains p) xs ys
+
+  example-up : (p : Drawing) → Pattern p → (xs ys : List Drawing) → example p (xs ++ (d ∷ ys)) ≡ moved-up (length xs) (example p (xs ++ ys))
+  unfolding example
+  example-up p w xs ys =
+      ap first-true (marks-with p w xs ys) ∙ first-true-up (containing p ys) (containing p xs)
+      ∙ ap₂ moved-up (marks-size p xs) (ap first-true (sym (marks-of p xs ys)))
+
+  example-down : (p : Drawing) → Pattern p → (xs ys : List Drawing) → example p (xs ++ ys) ≡ moved-down (length xs) (example p (xs ++ (d ∷ ys)))
+  unfolding example
+  example-down p w xs ys =
+      ap first-true (marks-of p xs ys) ∙ first-true-down (containing p ys) (containing p xs)
+      ∙ ap₂ moved-down (marks-size p xs) (ap first-true (sym (marks-with p w xs ys)))
+
+-- so codes and supports stay, and examples go along with the numbers
 pub lone-adds-none :
     (ks ls : List ℕ) (c : ℕ) (xs ys : List Drawing) (d : Drawing) (s l : ℕ) (gs : List Entry) → length ks ≡ length xs → d .cables ≡ []
-    → (Catalogue (ks ++ (c ∷ ls)) (xs ++ (d ∷ ys)) s l gs → Catalogue (ks ++ ls) (xs ++ ys) s l gs)
-    × (Catalogue (ks ++ ls) (xs ++ ys) s l gs → Catalogue (ks ++ (c ∷ ls)) (xs ++ (d ∷ ys)) s l gs)
-lone-adds-none ks ls c xs ys d s l gs sized bare = (
-  figures-alike (support-in (ks ++ (c ∷ ls)) (xs ++ (d ∷ ys))) (support-in (ks ++ ls) (xs ++ ys)) s l gs
-      (λ p w. support-without d bare p w c ks ls xs ys sized),
-  figures-alike (support-in (ks ++ ls) (xs ++ ys)) (support-in (ks ++ (c ∷ ls)) (xs ++ (d ∷ ys))) s l gs
-      (λ p w. sym (support-without d bare p w c ks ls xs ys sized)),
-)
+    → (Catalogue (ks ++ (c ∷ ls)) (xs ++ (d ∷ ys)) s l gs → Catalogue (ks ++ ls) (xs ++ ys) s l (renumbered (moved-down (length xs)) gs))
+    × (Catalogue (ks ++ ls) (xs ++ ys) s l gs → Catalogue (ks ++ (c ∷ ls)) (xs ++ (d ∷ ys)) s l (renumbered (moved-up (length xs)) gs))
+lone-adds-none ks ls c xs ys d s l gs sized bare =
+    let same : (p : Drawing) → Pattern p → support p (ks ++ (c ∷ ls)) (xs ++ (d ∷ ys)) ≡ support p (ks ++ ls) (xs ++ ys) =
+    λ p w. support-without d bare p w c ks ls xs ys sized in (
+      figures-told (Often (ks ++ (c ∷ ls)) (xs ++ (d ∷ ys)) s) (Often (ks ++ ls) (xs ++ ys) s) (figures-in (ks ++ (c ∷ ls)) (xs ++ (d ∷ ys)))
+          (figures-in (ks ++ ls) (xs ++ ys)) _ (λ p w. ap₂ figures (sym (same p w)) (example-down d bare p w xs ys))
+          (λ p w q. omega (arith, same p w)) (λ p w q. omega (arith, same p w)) l gs,
+      figures-told (Often (ks ++ ls) (xs ++ ys) s) (Often (ks ++ (c ∷ ls)) (xs ++ (d ∷ ys)) s) (figures-in (ks ++ ls) (xs ++ ys))
+          (figures-in (ks ++ (c ∷ ls)) (xs ++ (d ∷ ys))) _ (λ p w. ap₂ figures (same p w) (example-up d bare p w xs ys))
+          (λ p w q. omega (arith, same p w)) (λ p w q. omega (arith, same p w)) l gs,
+    )

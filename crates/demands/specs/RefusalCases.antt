@@ -9,6 +9,7 @@ use borrow.Author.Tests.{eqb-false}
 use Rattle.graphs.specs.Drawing.{Cable, drawing-in, joined-by, cable-refusal, cables-fit, unused-zero, connected, drawing-refusal}
 use Rattle.graphs.specs.Survey as surveys
 use Rattle.graphs.specs.Survey.{records-in, length-refusal, drawings-refusal, bytes-refusal, survey-refusal}
+use Rattle.growth.specs.Sizes.{entry-size}
 use Rattle.books.specs.Book.{one-to-three, book-refusal}
 use Rattle.records.specs.declared.refusal.Refusal.{Refusal}
 use Rattle.records.specs.declared.refusal.Refusal.the-variants.{
@@ -146,7 +147,7 @@ survey-plain bs s l =
 pub list-plain : (bs : List ℕ) (s l : ℕ) (list : List ℕ) → Plain (check-refusal bs s l list .number)
 unfolding check-refusal surveys.refusal
 list-plain bs s l list =
-    either-refusal (eqb (survey-refusal bs s l .number) 0) _ _ (either (eqb (length list % 42) 0) (plain 0 refl refl) (plain 18 refl refl))
+    either-refusal (eqb (survey-refusal bs s l .number) 0) _ _ (either (eqb (length list % entry-size) 0) (plain 0 refl refl) (plain 18 refl refl))
     (survey-plain bs s l)
 
 -- of the book

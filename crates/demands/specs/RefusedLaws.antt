@@ -17,7 +17,8 @@ use Rattle.graphs.specs.Map.{least-map}
 use Rattle.codes.specs.Code.{code-records, kinds-before}
 use Rattle.codes.specs.CodeOrder.{kinds-order}
 use Rattle.codes.specs.SectionCode.{section-code-refusal, section-records}
-use Rattle.growth.specs.Catalogue.{Entry, List-of, Often-in, support-of}
+use Rattle.growth.specs.Sizes.{entry-size}
+use Rattle.growth.specs.Catalogue.{Entry, List-of, Often-in, figures-of, Figures}
 use Rattle.growth.specs.FamilyLists.{list-unique}
 use Rattle.books.specs.Book.{Small, unsupported, book-refusal}
 use Rattle.records.specs.declared.refusal.Checked.{Checked}
@@ -155,7 +156,7 @@ unfolding Same-says
 same-turned-back xs ys r s = same-as-refused (first-of (drawing-refusal xs) (drawing-refusal ys)) (drawing-in xs) (drawing-in ys) r s
 
 -- A LIST of patterns
-module _ (f : surveys.Refusal) (Wanted : Drawing → Type 0) (figure : Drawing → ℕ) (l : ℕ) (r : Catalogued) (o z : List ℕ) where
+module _ (f : surveys.Refusal) (Wanted : Drawing → Type 0) (figure : Drawing → Figures) (l : ℕ) (r : Catalogued) (o z : List ℕ) where
   early : (n : ℕ) → f .number ≡ n → List-as n f Wanted figure l r o z → 0 < n → (catalogued-refusal r ≡ f) × (catalogued-count r ≡ 0) × (z ≡ o)
   early zero e a h = absurd (not-suc-le-zero h)
   early (suc n) e (g, w) h = (g, uncounted r g, w)
@@ -172,16 +173,16 @@ module _ (f : surveys.Refusal) (Wanted : Drawing → Type 0) (figure : Drawing �
     listed = subst (λ (n : ℕ). List-as n f Wanted figure l r o z) fine says
 
     module _ (es : List Entry) (c : List-of kinds-before Wanted figure l es) where
-      written : Written-entries (ltb (length o) (42 * length es)) es r o z
+      written : Written-entries (ltb (length o) (entry-size * length es)) es r o z
       written =
-          subst (λ (gs : List Entry). Written-entries (ltb (length o) (42 * length gs)) gs r o z)
+          subst (λ (gs : List Entry). Written-entries (ltb (length o) (entry-size * length gs)) gs r o z)
           (list-unique kinds-before kinds-order Wanted figure l (listed .0) es (listed .1) c) (listed .2)
 
-      short : length o < 42 * length es → Written-entries true es r o z
-      short h = subst (λ (t : Bool). Written-entries t es r o z) (lt-ltb (length o) (42 * length es) h) written
+      short : length o < entry-size * length es → Written-entries true es r o z
+      short h = subst (λ (t : Bool). Written-entries t es r o z) (lt-ltb (length o) (entry-size * length es) h) written
 
-      enough : 42 * length es ≤ length o → Written-entries false es r o z
-      enough h = subst (λ (t : Bool). Written-entries t es r o z) (le-ltb (length o) (42 * length es) h) written
+      enough : entry-size * length es ≤ length o → Written-entries false es r o z
+      enough h = subst (λ (t : Bool). Written-entries t es r o z) (le-ltb (length o) (entry-size * length es) h) written
 
   pub list-turned-back : List-says f Wanted figure l r o z → List-refused f Wanted figure l r o z
   list-turned-back says =
@@ -193,7 +194,7 @@ module _ (f : surveys.Refusal) (Wanted : Drawing → Type 0) (figure : Drawing �
       }
 
 pub catalogue-turned-back : (bs : List ℕ) (s l : ℕ) (r : Catalogued) (o z : List ℕ) → Catalogue-says bs s l r o z → Catalogue-refused bs s l r o z
-catalogue-turned-back bs s l = list-turned-back (survey-refusal bs s l) (Often-in bs s) (support-of bs) l
+catalogue-turned-back bs s l = list-turned-back (survey-refusal bs s l) (Often-in bs s) (figures-of bs) l
 
 pub book-turned-back : (a b l : ℕ) (r : Catalogued) (o z : List ℕ) → Book-says a b l r o z → Book-refused a b l r o z
 book-turned-back a b l = list-turned-back (surveys.refusal (book-refusal a b l) 0) (Small a b) unsupported l

@@ -1,10 +1,10 @@
 -- The support of a pattern is the number of different cranes that have a drawing in which it has an embedding; it falls with containment, looks
 -- at the pattern up to a map, is at most the number of drawings that contain it, and just that where all cranes differ. Rests on the least map
 -- and on crane counts. Assumes nothing.
-use mathlib.Core.Path.{_≡_, refl, sym, ap, ap₂, _∙_}
+use mathlib.Core.Path.{_≡_, refl, sym, ap₂, _∙_}
 use mathlib.Core.Bool.{Bool, true, false, cond}
 use mathlib.Core.List.{List, [], _∷_, map}
-use Prim.Native.Nat.{ℕ, zero, suc, _+_, _≤_, _<_}
+use Prim.Native.Nat.{ℕ, suc, _+_, _≤_, _<_}
 use native.Mathlib.Omega.{arith}
 use lib.ListN.{length, getD, length-map, List·getD-map}
 use Rattle.laws.specs.Tests.{true-and-false}
@@ -30,16 +30,16 @@ use Rattle.graphs.specs.LeastMap.{contains-from-embedding, embedding-from-conta
 use Rattle.demands.specs.Terms.{Contained, Supported, Drawings-with}
 
 module _ (p : Drawing) (ends : Ends-in-range p) where
-  contained : (d : Drawing) → contains p d ≡ true → Contained p d
+  pub contained : (d : Drawing) → contains p d ≡ true → Contained p d
   contained d = embedding-from-contains p d ends
 
-  contained-test : (d : Drawing) → Contained p d → contains p d ≡ true
+  pub contained-test : (d : Drawing) → Contained p d → contains p d ≡ true
   contained-test d c = contains-from-embedding p d (c .0) ends (c .1)
 
   not-contained : (d : Drawing) → contains p d ≡ false → Contained p d → ⊥
   not-contained d e c = true-and-false (contained-test d c) e
 
-  mark-at : (ds : List Drawing) (k : ℕ) (none : Drawing) → k < length ds → getD (containing p ds) k false ≡ contains p (getD ds k none)
+  pub mark-at : (ds : List Drawing) (k : ℕ) (none : Drawing) → k < length ds → getD (containing p ds) k false ≡ contains p (getD ds k none)
   unfolding containing
   mark-at ds k none h =
       getD-default (map (contains p) ds) k false (contains p none) (rw (length-map ds (contains p)) h)

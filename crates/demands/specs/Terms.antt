@@ -1,8 +1,8 @@
 -- The terms of Demands.antt: the bytes that a call writes, what a refused call leaves, the map of demand 3, what decoding leaves,
--- support as a number of cranes, and a catalogue or a book that is whole. Assumes nothing: these are definitions.
+-- support as a number of cranes, the example, and a catalogue or a book that is whole. Assumes nothing: these are definitions.
 use mathlib.Core.Path.{_≡_}
 use mathlib.Core.Bool.{Bool, true, false, cond}
-use mathlib.Core.List.{List, [], _∷_, _++_}
+use mathlib.Core.List.{List, [], _∷_, _++_, map}
 use mathlib.Core.Logic.{_⊎_}
 use Prim.Native.Nat.{ℕ, _*_, _/_, _%_, _≤_, _<_}
 use lib.Dec.{ltb}
@@ -17,10 +17,12 @@ use Rattle.graphs.specs.Graph.{Section}
 use Rattle.graphs.specs.Embedding.{Embedding}
 use Rattle.graphs.specs.Isomorphisms.{Demand-map}
 use Rattle.graphs.specs.Survey as surveys
-use Rattle.graphs.specs.Survey.{survey, cranes, length-refusal, bytes-refusal, survey-refusal, containing, count-true}
+use Rattle.graphs.specs.Survey.{survey, cranes, length-refusal, bytes-refusal, survey-refusal, containing, count-true, example}
 use Rattle.codes.specs.Code.{Rec, recs-in, kinds-before, rec-before, before}
 use Rattle.codes.specs.SectionCode.{section-of, Section-code, Least-section}
-use Rattle.growth.specs.Catalogue.{Entry, entry, List-of, Catalogue, entry-bytes, all-bytes, Often-in, support-of}
+use Rattle.growth.specs.Sizes.{entry-size}
+use Rattle.growth.specs.Catalogue.{Figures, figures, Entry, entry, List-of, Catalogue, entry-bytes, all-bytes, Often-in, figures-of}
+use Rattle.growth.specs.FigureLists.{with-figures}
 use Rattle.books.specs.Book.{Small, unsupported, book-refusal}
 use Rattle.records.specs.declared.refusal.Refusal.the-variants.{OutputLength, ListLength}
 use Rattle.code_checks.specs.declared.answer.Written.{Written}
@@ -53,7 +55,7 @@ written-bytes (written.Refused r) z = []
 
 -- and those of the n entries that a catalogue has
 abbrev pub written-entries : (n : ℕ) → (out-now : List ℕ) → List ℕ
-written-entries n z = take (42 * n) z
+written-entries n z = take (entry-size * n) z
 
 -- WHAT COMPARING AND THE LEAST TEST TELL beside the agreement, in the paper's numbers: 0 equal, 1 before, 2 after; 1 yes, 0 no; 0 of a refusal
 abbrev pub order-digit : Compared → ℕ
@@ -113,37 +115,38 @@ pub record Returned-as (number x count : ℕ) (out out-now : List ℕ) : Type 0 
 
 -- OF A LIST of patterns, whichever are wanted: what the call is given comes first, and is refused with the drawing at fault; then 15 exactly
 -- where the entries of the one list that there is do not fit, and every lent byte is zero
-pub record List-refused (f : surveys.Refusal) (Wanted : Drawing → Type 0) (figure : Drawing → ℕ) (l : ℕ) (r : Catalogued)
+pub record List-refused (f : surveys.Refusal) (Wanted : Drawing → Type 0) (figure : Drawing → Figures) (l : ℕ) (r : Catalogued)
     (out out-now : List ℕ) : Type 0 where
   pub early : 0 < f .number → (catalogued-refusal r ≡ f) × (catalogued-count r ≡ 0) × (out-now ≡ out)
   pub there : f .number ≡ 0 → (es : List Entry) × List-of kinds-before Wanted figure l es
   pub short :
-      f .number ≡ 0 → (es : List Entry) → List-of kinds-before Wanted figure l es → length out < 42 * length es
+      f .number ≡ 0 → (es : List Entry) → List-of kinds-before Wanted figure l es → length out < entry-size * length es
       → (r ≡ Refused OutputLength 0) × (out-now ≡ replicate (length out) 0)
   pub enough :
-      f .number ≡ 0 → (es : List Entry) → List-of kinds-before Wanted figure l es → 42 * length es ≤ length out
+      f .number ≡ 0 → (es : List Entry) → List-of kinds-before Wanted figure l es → entry-size * length es ≤ length out
       → (r ≡ Entries (length es)) × (out-now ≡ in-front (all-bytes es) out)
 
 -- the same from C
-pub record List-returned (f : surveys.Refusal) (Wanted : Drawing → Type 0) (figure : Drawing → ℕ) (l x : ℕ) (out out-now : List ℕ) : Type 0 where
+pub record List-returned (f : surveys.Refusal) (Wanted : Drawing → Type 0) (figure : Drawing → Figures) (l x : ℕ)
+    (out out-now : List ℕ) : Type 0 where
   pub early :
       0 < f .number
       → (returned-refusal x ≡ f .number) × (returned-drawing x ≡ f .drawing) × (returned-count x ≡ 0) × (out-now ≡ out)
   pub short :
-      f .number ≡ 0 → (es : List Entry) → List-of kinds-before Wanted figure l es → length out < 42 * length es
+      f .number ≡ 0 → (es : List Entry) → List-of kinds-before Wanted figure l es → length out < entry-size * length es
       → (returned-refusal x ≡ 15) × (returned-drawing x ≡ 0) × (returned-count x ≡ 0) × (out-now ≡ replicate (length out) 0)
   pub enough :
-      f .number ≡ 0 → (es : List Entry) → List-of kinds-before Wanted figure l es → 42 * length es ≤ length out
+      f .number ≡ 0 → (es : List Entry) → List-of kinds-before Wanted figure l es → entry-size * length es ≤ length out
       → (returned-refusal x ≡ 0) × (returned-drawing x ≡ 0) × (returned-count x ≡ length es) × (out-now ≡ in-front (all-bytes es) out)
 
--- of a catalogue: settings and survey; then the patterns that drawings of enough cranes contain, with their support
+-- of a catalogue: settings and survey; then the patterns that drawings of enough cranes contain, with their support and example
 abbrev pub Catalogue-refused : (bs : List ℕ) (s l : ℕ) → Catalogued → (out out-now : List ℕ) → Type 0
-Catalogue-refused bs s l = List-refused (survey-refusal bs s l) (Often-in bs s) (support-of bs) l
+Catalogue-refused bs s l = List-refused (survey-refusal bs s l) (Often-in bs s) (figures-of bs) l
 
 abbrev pub Catalogue-returned : (bs : List ℕ) (s l x : ℕ) (out out-now : List ℕ) → Type 0
-Catalogue-returned bs s l = List-returned (survey-refusal bs s l) (Often-in bs s) (support-of bs) l
+Catalogue-returned bs s l = List-returned (survey-refusal bs s l) (Often-in bs s) (figures-of bs) l
 
--- of the book: 16 and 17, which name no drawing; then the patterns with small kinds, with support 0
+-- of the book: 16 and 17, which name no drawing; then the patterns with small kinds, with support 0 and example 0
 abbrev pub Book-refused : (a b l : ℕ) → Catalogued → (out out-now : List ℕ) → Type 0
 Book-refused a b l = List-refused (surveys.refusal (book-refusal a b l) 0) (Small a b) unsupported l
 
@@ -154,12 +157,12 @@ Book-returned a b l = List-returned (surveys.refusal (book-refusal a b l) 0) (Sm
 -- exactly if it is the bytes of the one catalogue that there is
 pub record Check-refused (bs : List ℕ) (s l : ℕ) (list : List ℕ) (r : ListChecked) : Type 0 where
   pub early : 0 < survey-refusal bs s l .number → (list-refusal r ≡ survey-refusal bs s l) × (list-value r ≡ 0)
-  pub part-entry : survey-refusal bs s l .number ≡ 0 → (length list % 42 ≡ 0 → ⊥) → r ≡ list-check.Refused ListLength 0
+  pub part-entry : survey-refusal bs s l .number ≡ 0 → (length list % entry-size ≡ 0 → ⊥) → r ≡ list-check.Refused ListLength 0
   pub there : survey-refusal bs s l .number ≡ 0 → (es : List Entry) × Catalogue (cranes bs) (survey bs) s l es
   pub yes :
       survey-refusal bs s l .number ≡ 0 → (es : List Entry) → Catalogue (cranes bs) (survey bs) s l es → list ≡ all-bytes es → r ≡ list-check.Yes
   pub no :
-      survey-refusal bs s l .number ≡ 0 → length list % 42 ≡ 0 → (es : List Entry) → Catalogue (cranes bs) (survey bs) s l es
+      survey-refusal bs s l .number ≡ 0 → length list % entry-size ≡ 0 → (es : List Entry) → Catalogue (cranes bs) (survey bs) s l es
       → (list ≡ all-bytes es → ⊥) → r ≡ list-check.No
 
 -- the same from C
@@ -168,13 +171,13 @@ pub record Check-returned (bs : List ℕ) (s l : ℕ) (list : List ℕ) (x : ℕ
       0 < survey-refusal bs s l .number
       → (returned-refusal x ≡ survey-refusal bs s l .number) × (returned-drawing x ≡ survey-refusal bs s l .drawing) × (returned-count x ≡ 0)
   pub part-entry :
-      survey-refusal bs s l .number ≡ 0 → (length list % 42 ≡ 0 → ⊥)
+      survey-refusal bs s l .number ≡ 0 → (length list % entry-size ≡ 0 → ⊥)
       → (returned-refusal x ≡ 18) × (returned-drawing x ≡ 0) × (returned-count x ≡ 0)
   pub yes :
       survey-refusal bs s l .number ≡ 0 → (es : List Entry) → Catalogue (cranes bs) (survey bs) s l es → list ≡ all-bytes es
       → (returned-refusal x ≡ 0) × (returned-drawing x ≡ 0) × (returned-count x ≡ 1)
   pub no :
-      survey-refusal bs s l .number ≡ 0 → length list % 42 ≡ 0 → (es : List Entry) → Catalogue (cranes bs) (survey bs) s l es
+      survey-refusal bs s l .number ≡ 0 → length list % entry-size ≡ 0 → (es : List Entry) → Catalogue (cranes bs) (survey bs) s l es
       → (list ≡ all-bytes es → ⊥) → (returned-refusal x ≡ 0) × (returned-drawing x ≡ 0) × (returned-count x ≡ 0)
 
 -- THE MAP OF DEMAND 3, sentence by sentence in `Demand-map`: there is one
@@ -254,24 +257,34 @@ pub record Drawings-with (p : Drawing) (ds : List Drawing) (n : ℕ) : Type 0 wh
   pub no : (k : ℕ) (none : Drawing) → k < length ds → getD marks k false ≡ false → Contained p (getD ds k none) → ⊥
   pub counts : n ≡ count-true marks
 
--- and the catalogue that they give: the patterns that at least s drawings contain, each with their number
-abbrev pub drawings-with : (ds : List Drawing) → Drawing → ℕ
-drawings-with ds p = count-true (containing p ds)
+-- and the catalogue that they give: the patterns that at least s drawings contain, each with their number and its example
+abbrev pub drawings-with : (ds : List Drawing) → Drawing → Figures
+drawings-with ds p = figures (count-true (containing p ds)) (example p ds)
 
 abbrev pub Catalogue-one-by-one : (ds : List Drawing) (s l : ℕ) (es : List Entry) → Type 0
-Catalogue-one-by-one ds s = List-of kinds-before (λ p. s ≤ drawings-with ds p) (drawings-with ds)
+Catalogue-one-by-one ds s = List-of kinds-before (λ p. s ≤ drawings-with ds p .support) (drawings-with ds)
+
+-- THE EXAMPLE: drawing n contains p, and none before it does
+pub record First-with (p : Drawing) (ds : List Drawing) (n : ℕ) : Type 0 where
+  pub below : n < length ds
+  pub there : (none : Drawing) → Contained p (getD ds n none)
+  pub none-before : (k : ℕ) (none : Drawing) → k < n → Contained p (getD ds k none) → ⊥
+
+-- entries whose examples are numbered by h
+abbrev pub renumbered : (h : ℕ → ℕ) → List Entry → List Entry
+renumbered h = map (with-figures (λ f. figures (f .support) (h (f .example))))
 
 -- ONE DRAWING AS SHEETS OF TWO CRANES: records that do not differ before byte 72. Those of another length are refused.
 pub record Sheets-alike (xs ys : List ℕ) : Type 0 where
   pub sized : length xs ≡ length ys
   pub alike : take 72 xs ≡ take 72 ys
 
--- ENTRIES of the output, 42 bytes each: number of cables, support, then that many records
+-- ENTRIES of the output, 43 bytes each: number of cables, support, then that many records; byte 42 is the example
 unfoldable pub entry-of : List ℕ → Entry
-entry-of bs = entry (getD bs 1 0) (recs-in (getD bs 0 0) (drop 2 bs))
+entry-of bs = entry (figures (getD bs 1 0) (getD bs 42 0)) (recs-in (getD bs 0 0) (drop 2 bs))
 
 unfoldable pub entry-in : (k : ℕ) → (output : List ℕ) → Entry
-entry-in k z = entry-of (row 42 k z)
+entry-in k z = entry-of (row entry-size k z)
 
 -- An entry is one for a section if the records that its number of cables counts are a code of that section.
 abbrev pub Entry-for : (p : Drawing) → (output : List ℕ) → (k : ℕ) → Type 0
@@ -290,10 +303,10 @@ pub record Whole-list (n : ℕ) (o z : List ℕ) : Type 0 where
   -- codes rise
   pub rise : (j k : ℕ) → j < k → k < n → before (entry-in j z .code) (entry-in k z .code) ≡ true
   -- the bytes are those of the entries, and what they were past the last one
-  pub bytes : (k : ℕ) → k < n → row 42 k z ≡ entry-bytes (entry-in k z)
-  pub room : 42 * n ≤ length z
+  pub bytes : (k : ℕ) → k < n → row entry-size k z ≡ entry-bytes (entry-in k z)
+  pub room : entry-size * n ≤ length z
   pub size : length z ≡ length o
-  pub kept : drop (42 * n) z ≡ drop (42 * n) o
+  pub kept : drop (entry-size * n) z ≡ drop (entry-size * n) o
 
 -- A WHOLE CATALOGUE
 pub record Whole-catalogue (bs : List ℕ) (s l n : ℕ) (o z : List ℕ) : Type 0 where
@@ -305,9 +318,12 @@ pub record Whole-catalogue (bs : List ℕ) (s l n : ℕ) (o z : List ℕ) : Type
   -- and no other has, so none without a cable
   pub frequent :
       (p : Drawing) → Section p → (k : ℕ) → k < n → Entry-for p z k
-      → (1 ≤ length (p .cables)) × (length (p .cables) ≤ l) × (s ≤ entry-in k z .support)
+      → (1 ≤ length (p .cables)) × (length (p .cables) ≤ l) × (s ≤ entry-in k z .figures .support)
   -- with its support
-  pub support : (p : Drawing) → Section p → (k : ℕ) → k < n → Entry-for p z k → Supported p (cranes bs) (survey bs) (entry-in k z .support)
+  pub support : (p : Drawing) → Section p → (k : ℕ) → k < n → Entry-for p z k
+      → Supported p (cranes bs) (survey bs) (entry-in k z .figures .support)
+  -- and its example: that drawing of the survey contains it, and none before does
+  pub example : (p : Drawing) → Section p → (k : ℕ) → k < n → Entry-for p z k → First-with p (survey bs) (entry-in k z .figures .example)
 
 -- A WHOLE BOOK
 pub record Whole-book (a b l n : ℕ) (o z : List ℕ) : Type 0 where
@@ -318,5 +334,6 @@ pub record Whole-book (a b l n : ℕ) (o z : List ℕ) : Type 0 where
   -- and no other has
   pub small :
       (p : Drawing) → Section p → (k : ℕ) → k < n → Entry-for p z k → (1 ≤ length (p .cables)) × (length (p .cables) ≤ l) × Small a b p
-  -- with support 0
-  pub support : (k : ℕ) → k < n → entry-in k z .support ≡ 0
+  -- with support 0, and 0 as the example
+  pub support : (k : ℕ) → k < n → entry-in k z .figures .support ≡ 0
+  pub example : (k : ℕ) → k < n → entry-in k z .figures .example ≡ 0

@@ -30,7 +30,8 @@ use Rattle.codes.specs.CodesTell.{code-along, code-makes-same}
 use Rattle.codes.specs.ReadRows.{good-from-test}
 use Rattle.codes.specs.SectionCode.{lone-code, lone-row, Section-code}
 use Rattle.codes.specs.SectionCodes.{rows-not-lone, lone-code-row, lone-only, cabled-code, pattern-code, least-pattern}
-use Rattle.growth.specs.Catalogue.{Entry, entry, Entry-of, List-of, entry-bytes, all-bytes}
+use Rattle.growth.specs.Sizes.{entry-size}
+use Rattle.growth.specs.Catalogue.{Figures, figures, Entry, entry, Entry-of, List-of, entry-bytes, all-bytes}
 use Rattle.growth.specs.Family.{Closed, Kept-by-maps}
 use Rattle.records.specs.declared.refusal.Refusal.{Refusal}
 use Rattle.records.specs.declared.refusal.Refusal.the-variants.{OutputLength}
@@ -62,14 +63,14 @@ refused-number : (r : Refusal) (d : ℕ) → catalogued-refusal (Refused r d) .n
 unfolding surveys.refusal
 refused-number r d = refl
 
-module _ (Wanted : Drawing → Type 0) (figure : Drawing → ℕ) (l : ℕ) where
+module _ (Wanted : Drawing → Type 0) (figure : Drawing → Figures) (l : ℕ) where
   -- WHAT AN ENTRY SAYS of any section that it is one for
   pub record Entry-says (e : Entry) (p : Drawing) : Type 0 where
     pub pattern : Pattern p
     pub size : length (p .cables) ≤ l
     pub wanted : Wanted p
     pub least : Least p (e .code)
-    pub support-is : e .support ≡ figure p
+    pub figures-are : e .figures ≡ figure p
 
   -- where entries are answered, what was given is accepted
   pub list-accepted : (f : surveys.Refusal) (n : ℕ) (o z : List ℕ) → List-says f Wanted figure l (Entries n) o z → f .number ≡ 0
@@ -84,15 +85,15 @@ module _ (Wanted : Drawing → Type 0) (figure : Drawing → ℕ) (l : ℕ) wher
     pub es : List Entry
     pub list : List-of kinds-before Wanted figure l es
     pub count : n ≡ length es
-    pub room : 42 * length es ≤ length o
+    pub room : entry-size * length es ≤ length o
     pub output : z ≡ in-front (all-bytes es) o
 
   pub finished : (f : surveys.Refusal) (n : ℕ) (o z : List ℕ) → List-says f Wanted figure l (Entries n) o z → Finished n o z
   finished f n o z says = go (f .number) refl says
     where
       written :
-          (es : List Entry) (t : Bool) → ltb (length o) (42 * length es) ≡ t → Entries-written t es (Entries n) o z
-          → (n ≡ length es) × (42 * length es ≤ length o) × (z ≡ in-front (all-bytes es) o)
+          (es : List Entry) (t : Bool) → ltb (length o) (entry-size * length es) ≡ t → Entries-written t es (Entries n) o z
+          → (n ≡ length es) × (entry-size * length es ≤ length o) × (z ≡ in-front (all-bytes es) o)
       written es true e (r, w) =
           absurd
           (omega (
@@ -100,11 +101,11 @@ module _ (Wanted : Drawing → Type 0) (figure : Drawing → ℕ) (l : ℕ) wher
             sym (entries-number n) ∙ ap (λ (c : Catalogued). catalogued-refusal c .number) r ∙ refused-number OutputLength 0,
             number-positive OutputLength,
           ))
-      written es false e (r, w) = (ap catalogued-count r, ltb-false (length o) (42 * length es) e, w)
+      written es false e (r, w) = (ap catalogued-count r, ltb-false (length o) (entry-size * length es) e, w)
 
       go : (m : ℕ) → f .number ≡ m → List-as m f Wanted figure l (Entries n) o z → Finished n o z
       go zero e (es, c, w) =
-          let t = written es (ltb (length o) (42 * length es)) refl w in
+          let t = written es (ltb (length o) (entry-size * length es)) refl w in
           record { es = es; list = c; count = t .0; room = t .1; output = t .2 }
       go (suc m) e (r, w) = absurd (omega (arith, sym (entries-number n) ∙ ap (λ (f : surveys.Refusal). f .number) r ∙ e))
 
@@ -116,7 +117,7 @@ module _ (Wanted : Drawing → Type 0) (figure : Drawing → ℕ) (l : ℕ) wher
           size = omega (arith, f .size, coded-length p simple (e .code) (coded-from-test p simple (e .code) c));
           wanted = closed p q i (pattern-from-test q (f .is-one)) (contains-from-same p q (simple .ends) (plain .ends) alike) (f .wanted);
           least = record { code = c; least = λ ss g. f .least .least ss (code-along p q simple plain ss alike g) };
-          support-is = sym (kept-by p q (simple .ends) (plain .ends) alike ∙ f .support-is);
+          figures-are = sym (kept-by p q (simple .ends) (plain .ends) alike ∙ f .figures-are);
         }
       where
         q : Drawing
@@ -133,7 +134,7 @@ module _ (Wanted : Drawing → Type 0) (figure : Drawing → ℕ) (l : ℕ) wher
 
     module _ (high : l ≤ 8) {n : ℕ} {o z : List ℕ} (f : Finished n o z) where
       abbrev none : Entry
-      none = entry 0 []
+      none = entry (figures 0 0) []
 
       few : (e : Entry) → Mem e (f .es) → length (e .code) ≤ 8
       few e m = omega (arith, f .list .sound e m .size)
@@ -142,8 +143,8 @@ module _ (Wanted : Drawing → Type 0) (figure : Drawing → ℕ) (l : ℕ) wher
       abbrev rest : List ℕ
       rest = drop (length (all-bytes (f .es))) o
 
-      front : length (all-bytes (f .es)) ≡ 42 * n
-      front = all-bytes-length (f .es) few ∙ ap (λ (k : ℕ). 42 * k) (sym (f .count))
+      front : length (all-bytes (f .es)) ≡ entry-size * n
+      front = all-bytes-length (f .es) few ∙ ap (λ (k : ℕ). entry-size * k) (sym (f .count))
 
       is-entry : (k : ℕ) → k < n → entry-in k z ≡ getD (f .es) k none
       is-entry k h = ap (entry-in k) (f .output) ∙ entry-at (f .es) few rest none k (omega (arith, f .count))
@@ -208,9 +209,9 @@ module _ (Wanted : Drawing → Type 0) (figure : Drawing → ℕ) (l : ℕ) wher
           let t = entry-wanted k h in
           (t .pattern, pattern-section (pattern-from-test (t .pattern) (t .is-one)), cabled-code (t .least .code))
 
-      whole-bytes : (k : ℕ) → k < n → row 42 k z ≡ entry-bytes (entry-in k z)
+      whole-bytes : (k : ℕ) → k < n → row entry-size k z ≡ entry-bytes (entry-in k z)
       whole-bytes k h =
-          ap (row 42 k) (f .output) ∙ bytes-at (f .es) few rest none k (omega (arith, f .count)) ∙ ap entry-bytes (sym (is-entry k h))
+          ap (row entry-size k) (f .output) ∙ bytes-at (f .es) few rest none k (omega (arith, f .count)) ∙ ap entry-bytes (sym (is-entry k h))
 
       whole-size : length z ≡ length o
       whole-size =
@@ -224,12 +225,12 @@ module _ (Wanted : Drawing → Type 0) (figure : Drawing → ℕ) (l : ℕ) wher
             f .room,
           )
 
-      whole-room : 42 * n ≤ length z
+      whole-room : entry-size * n ≤ length z
       whole-room = omega (arith, f .count, f .room, whole-size)
 
-      whole-kept : drop (42 * n) z ≡ drop (42 * n) o
+      whole-kept : drop (entry-size * n) z ≡ drop (entry-size * n) o
       whole-kept =
-          ap (drop (42 * n)) (f .output) ∙ drop-at (all-bytes (f .es)) rest (42 * n) front
+          ap (drop (entry-size * n)) (f .output) ∙ drop-at (all-bytes (f .es)) rest (entry-size * n) front
           ∙ ap (λ (k : ℕ). drop k o) front
 
       -- WHOLE, whichever patterns are wanted

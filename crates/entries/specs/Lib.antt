@@ -1,4 +1,5 @@
 -- Definitions.
+pub mod Heads
 pub mod ListOutcomes
 pub mod Written
 -- Laws over them.

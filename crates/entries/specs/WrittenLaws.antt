@@ -14,7 +14,8 @@ use Rattle.graphs.specs.Drawing.{Drawing}
 use Rattle.graphs.specs.Survey as surveys
 use Rattle.codes.specs.Code.{Rec, kinds-before}
 use Rattle.codes.specs.CodeOrder.{kinds-order}
-use Rattle.growth.specs.Catalogue.{List-of, all-bytes}
+use Rattle.growth.specs.Sizes.{entry-size}
+use Rattle.growth.specs.Catalogue.{List-of, all-bytes, Figures}
 use Rattle.growth.specs.Family.{Listable, Closed, Kept-by-maps, entry-for}
 use Rattle.growth.specs.FamilyLists.{listed-list}
 use Rattle.growth.specs.Growth.{Listed}
@@ -35,12 +36,12 @@ drop-all n xs h = nil-of-length (drop n xs) (omega (arith, length-drop n xs))
 
 -- the same told in other words
 pub outcome-as :
-    (checking : Bool) (figure : Drawing → ℕ) {P Q : List (List Rec) → Type 0} → ((more : List (List Rec)) → P more → Q more)
+    (checking : Bool) (figure : Drawing → Figures) {P Q : List (List Rec) → Type 0} → ((more : List (List Rec)) → P more → Q more)
     → (cs : List (List Rec)) (old out : List ℕ) (r : Growth) → Outcome checking figure P cs old out r → Outcome checking figure Q cs old out r
 outcome-as checking figure f cs old out (To k) m = record { more = m .more; which = f (m .more) (m .which); lists = m .lists; room = m .room }
 outcome-as checking figure f cs old out Stopped m = record { more = m .more; which = f (m .more) (m .which); back = m .back }
 
-module _ (Wanted : Drawing → Type 0) (figure : Drawing → ℕ) (l : ℕ) (closed : Closed Wanted) (kept : Kept-by-maps figure) (low : l ≤ 8) where
+module _ (Wanted : Drawing → Type 0) (figure : Drawing → Figures) (l : ℕ) (closed : Closed Wanted) (kept : Kept-by-maps figure) (low : l ≤ 8) where
   abbrev All : List (List Rec) → Type 0
   All = Listed kinds-before kinds-order (Listable kinds-before Wanted) l []
 
@@ -49,7 +50,7 @@ module _ (Wanted : Drawing → Type 0) (figure : Drawing → ℕ) (l : ℕ) (clo
     list-is : List-of kinds-before Wanted figure l (map (entry-for figure) cs)
     list-is = listed-list kinds-before kinds-order Wanted figure l closed kept cs t
 
-    size-is : length (all-bytes (map (entry-for figure) cs)) ≡ 42 * length (map (entry-for figure) cs)
+    size-is : length (all-bytes (map (entry-for figure) cs)) ≡ entry-size * length (map (entry-for figure) cs)
     size-is = all-bytes-length _ (λ e i. omega (arith, list-is .sound e i .size, low))
 
   module _ (o : List ℕ) {z : List ℕ} {k : ℕ}
@@ -61,7 +62,7 @@ module _ (Wanted : Drawing → Type 0) (figure : Drawing → ℕ) (l : ℕ) (clo
     bytes =
         m .lists .bytes
         ∙ ap (λ (i : ℕ). all-bytes (map (entry-for figure) (m .more)) ++ drop i o)
-        (ap (λ (i : ℕ). 42 * i) (sym (length-map (m .more) (entry-for figure))) ∙ sym (size-is (m .more) (m .which)))
+        (ap (λ (i : ℕ). entry-size * i) (sym (length-map (m .more) (entry-for figure))) ∙ sym (size-is (m .more) (m .which)))
 
   -- WRITTEN TO THE END
   pub list-written :
@@ -71,7 +72,7 @@ module _ (Wanted : Drawing → Type 0) (figure : Drawing → ℕ) (l : ℕ) (clo
     map (entry-for figure) (m .more),
     list-is (m .more) (m .which),
     subst (λ (t : Bool). Entries-written t (map (entry-for figure) (m .more)) (Entries k) o z)
-        (sym (le-ltb (length o) (42 * length (map (entry-for figure) (m .more))) (omega (arith, m .room, count o m, e))))
+        (sym (le-ltb (length o) (entry-size * length (map (entry-for figure) (m .more))) (omega (arith, m .room, count o m, e))))
         (ap Entries (count o m), bytes o m),
   )
 
@@ -83,14 +84,14 @@ module _ (Wanted : Drawing → Type 0) (figure : Drawing → ℕ) (l : ℕ) (clo
     map (entry-for figure) (m .more),
     list-is (m .more) (m .which),
     subst (λ (t : Bool). Entries-written t (map (entry-for figure) (m .more)) (Refused OutputLength 0) o z)
-        (sym (lt-ltb (length o) (42 * length (map (entry-for figure) (m .more))) (omega (arith, m .back, size-is (m .more) (m .which)))))
+        (sym (lt-ltb (length o) (entry-size * length (map (entry-for figure) (m .more))) (omega (arith, m .back, size-is (m .more) (m .which)))))
         (refl, is ∙ ap (λ (k : ℕ). replicate k 0) e),
   )
 
   -- HELD TO THE END: the list that is given begins with the whole list, and is it if it is no longer
   pub list-held :
       (given : List ℕ) (k : ℕ) → Outcome true figure (Listed kinds-before kinds-order (Listable kinds-before Wanted) l []) [] given given (To k)
-      → {r : Bool} → Decides r (length given ≡ 42 * k) → List-held Wanted figure l given r
+      → {r : Bool} → Decides r (length given ≡ entry-size * k) → List-held Wanted figure l given r
   list-held given k m d = (
     map (entry-for figure) (m .more),
     list-is (m .more) (m .which),
@@ -101,7 +102,7 @@ module _ (Wanted : Drawing → Type 0) (figure : Drawing → ℕ) (l : ℕ) (clo
           (drop-all (length (all-bytes (map (entry-for figure) (m .more)))) given
           (omega (arith, d .holds t, count given m, size-is (m .more) (m .which))))
           ∙ append-nil (all-bytes (map (entry-for figure) (m .more)));
-      fails = λ t e. d .fails t (ap length e ∙ size-is (m .more) (m .which) ∙ ap (λ (i : ℕ). 42 * i) (sym (count given m)));
+      fails = λ t e. d .fails t (ap length e ∙ size-is (m .more) (m .which) ∙ ap (λ (i : ℕ). entry-size * i) (sym (count given m)));
     },
   )
 
@@ -120,7 +121,7 @@ module _ (Wanted : Drawing → Type 0) (figure : Drawing → ℕ) (l : ℕ) (clo
   )
 
 -- THE OUTCOME: what was given is refused, or not
-module _ (f : surveys.Refusal) (Wanted : Drawing → Type 0) (figure : Drawing → ℕ) (l : ℕ) (r : Catalogued) (o z : List ℕ) where
+module _ (f : surveys.Refusal) (Wanted : Drawing → Type 0) (figure : Drawing → Figures) (l : ℕ) (r : Catalogued) (o z : List ℕ) where
   pub says-refused : 0 < f .number → catalogued-refusal r ≡ f → z ≡ o → List-says f Wanted figure l r o z
   says-refused h e same = go (f .number) h
     where

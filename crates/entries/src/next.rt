@@ -9,9 +9,9 @@ ghost use mathlib.Core.Bool.{true, false};
 ghost use Prim.Native.Nat.{_*_, _≤_};
 ghost use lib.ListN.{length};
 ghost use Rattle.laws.specs.Decides.{Decides};
-ghost use Rattle.codes.specs.Code.{recs-in};
-ghost use Rattle.growth.specs.Catalogue.{entry, entry-bytes};
+ghost use Rattle.growth.specs.Sizes.{entry-size};
 ghost use Rattle.growth.specs.Page.{page, Entry-handed};
+ghost use Rattle.entries.specs.Heads.{Head-fits, headed};
 
 // Whether two rows of as many bytes are equal: no, at the first byte that differs.
 fn same_bytes(one: &[u8], other: &[u8]) -> bool
@@ -28,25 +28,23 @@ fn same_bytes(one: &[u8], other: &[u8]) -> bool
 
 // Whether an entry stands as entry k of a list: it is made as it would be written.
 fn entry_stands(code: &[u8; Code::BYTES], head: Entry, k: usize, list: &[u8]) -> bool
-    requires { ⌜ (length (now code) ≡ 100) × (42 * k ≤ length (now list)) × (head .cables ≤ 8) × (head .support ≤ 32) ⌝ }
-    ensures { λ r. ⌜ Entry-handed true (entry-bytes (entry (head .support) (recs-in (head .cables) (now (code .entry))))) k
-        (now (list .entry)) r (now (list .entry)) ⌝ }
+    requires { ⌜ Head-fits (now code) head × (entry-size * k ≤ length (now list)) ⌝ }
+    ensures { λ r. ⌜ Entry-handed true (headed (now (code .entry)) head) k (now (list .entry)) r (now (list .entry)) ⌝ }
 {
     let at = Entry::BYTES * k;
     if list.len() - at < Entry::BYTES {
         return false;
     }
     let mut own = [0; Entry::BYTES];
-    write_entry(code, head.cables, head.support, &mut own);
+    write_entry(code, head, &mut own);
     let end = at + Entry::BYTES;
     same_bytes(&own, &list[at..end])
 }
 
 // Writes an entry as entry k of the output, if there is room for it.
 pub fn write_next(code: &[u8; Code::BYTES], head: Entry, k: usize, output: &mut [u8]) -> bool
-    requires { ⌜ (length (now code) ≡ 100) × (42 * k ≤ length (now output)) × (head .cables ≤ 8) × (head .support ≤ 32) ⌝ }
-    ensures { λ r. ⌜ Entry-handed false (entry-bytes (entry (head .support) (recs-in (head .cables) (now (code .entry))))) k
-        (now (output .entry)) r (now (output .exit)) ⌝ }
+    requires { ⌜ Head-fits (now code) head × (entry-size * k ≤ length (now output)) ⌝ }
+    ensures { λ r. ⌜ Entry-handed false (headed (now (code .entry)) head) k (now (output .entry)) r (now (output .exit)) ⌝ }
 {
     if output.len() - Entry::BYTES * k < Entry::BYTES {
         return false;
@@ -64,9 +62,8 @@ pub fn next_entry(
     given: &[u8],
     output: &mut [u8],
 ) -> bool
-    requires { ⌜ (length (now code) ≡ 100) × (42 * k ≤ length (page checking (now given) (now output)))
-        × (head .cables ≤ 8) × (head .support ≤ 32) ⌝ }
-    ensures { λ r. ⌜ Entry-handed checking (entry-bytes (entry (head .support) (recs-in (head .cables) (now (code .entry))))) k
+    requires { ⌜ Head-fits (now code) head × (entry-size * k ≤ length (page checking (now given) (now output))) ⌝ }
+    ensures { λ r. ⌜ Entry-handed checking (headed (now (code .entry)) head) k
         (page checking (now (given .entry)) (now (output .entry))) r (page checking (now (given .entry)) (now (output .exit))) ⌝ }
 {
     if checking {

@@ -1,16 +1,17 @@
--- Containment: it composes, support never rises as a pattern grows, drawings that are the same are contained alike, and
--- sameness is containment with equal numbers. Rests on LeastMap.antt, Isomorphisms.antt and CountingCables.antt.
+-- Containment: it composes, support never rises as a pattern grows and its example never falls, drawings that are the same are contained alike,
+-- and sameness is containment with equal numbers. Rests on LeastMap.antt, Isomorphisms.antt and CountingCables.antt.
 -- Assumes nothing.
-use mathlib.Core.Path.{_≡_, refl, sym, ap, ap₂}
+use mathlib.Core.Path.{_≡_, refl, sym, ap, ap₂, _∙_}
 use mathlib.Core.Bool.{Bool, true, false}
 use mathlib.Core.List.{List, [], _∷_}
 use Prim.Native.Nat.{ℕ, zero, suc, _≤_}
-use lib.ListN.{length, getD}
+use lib.ListN.{length, getD, length-map}
 use Rattle.laws.specs.Tests.{same-truth}
 use Rattle.graphs.specs.Drawing.{Drawing, devices}
 use Rattle.graphs.specs.Map.{contains, Same}
-use Rattle.graphs.specs.Survey.{containing, crane-count, support}
+use Rattle.graphs.specs.Survey.{containing, crane-count, support, first-true, example}
 use Rattle.graphs.specs.CraneCounts.{crane-count-falls}
+use Rattle.graphs.specs.FirstMarks.{first-true-rises}
 use Rattle.graphs.specs.Embedding.{Ends-in-range}
 use Rattle.graphs.specs.Graph.{Simple}
 use Rattle.graphs.specs.Embeddings.{identity, embedding-identity, compose, embedding-compose}
@@ -45,6 +46,12 @@ module _ (p q : Drawing) (ends-p : Ends-in-range p) (ends-q : Ends-in-range q) (
   unfolding support
   support-falls cs ds = crane-count-falls cs (containing q ds) (containing p ds) (containing-shrinks ds)
 
+  -- and the example does not come earlier
+  pub example-rises : (ds : List Drawing) → example p ds ≤ example q ds
+  unfolding example containing
+  example-rises ds =
+      first-true-rises (containing p ds) (containing q ds) (length-map ds (contains p) ∙ sym (length-map ds (contains q))) (containing-shrinks ds)
+
 -- DRAWINGS THAT ARE THE SAME are contained alike
 pub contains-from-same : (p d : Drawing) → Ends-in-range p → Ends-in-range d → Same p d → contains p d ≡ true
 unfolding Same
@@ -65,6 +72,10 @@ module _ (p q : Drawing) (ends-p : Ends-in-range p) (ends-q : Ends-in-range q) (
   pub same-support : (cs : List ℕ) (ds : List Drawing) → support p cs ds ≡ support q cs ds
   unfolding support
   same-support cs ds = ap (crane-count cs) (containing-same ds)
+
+  pub same-example : (ds : List Drawing) → example p ds ≡ example q ds
+  unfolding example
+  same-example ds = ap first-true (containing-same ds)
 
 -- SAMENESS is containment with as many devices and as many cables
 pub same-contained : (p d : Drawing) → Simple p → Simple d → Same p d

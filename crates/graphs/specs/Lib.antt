@@ -8,6 +8,7 @@ pub mod Graph
 pub mod MarkCounts
 pub mod Cables
 pub mod CraneCounts
+pub mod FirstMarks
 pub mod Simple
 pub mod Embeddings
 pub mod Isomorphisms

@@ -1,8 +1,8 @@
--- Surveys: 1 to 32 drawings one after another; their refusals; their cranes; the drawings that contain a pattern, and its support.
+-- Surveys: 1 to 32 drawings one after another; their refusals; their cranes; the drawings that contain a pattern, its support and its example.
 -- Assumes nothing: these are definitions.
 use mathlib.Core.Bool.{Bool, true, false, _&&_, not, cond}
 use mathlib.Core.List.{List, [], _∷_, map}
-use Prim.Native.Nat.{ℕ, zero, suc, _+_, _/_, _%_}
+use Prim.Native.Nat.{ℕ, suc, _+_, _/_, _%_}
 use lib.Dec.{leb, eqb}
 use lib.ListN.{length}
 use Rattle.laws.specs.Rows.{rows}
@@ -75,6 +75,15 @@ crane-count cs ms = length (each-once (marked-cranes cs ms))
 -- the support of a pattern: the number of different cranes among the drawings that contain it
 unfoldable pub support : Drawing → (cranes : List ℕ) → List Drawing → ℕ
 support p cs ds = crane-count cs (containing p ds)
+
+-- the first that is marked; where none is, as many as there are
+unfoldable pub first-true : List Bool → ℕ
+first-true [] = 0
+first-true (b ∷ bs) = cond b 0 (suc (first-true bs))
+
+-- THE EXAMPLE of a pattern: the lowest number of a drawing that contains it, whatever its crane
+unfoldable pub example : Drawing → List Drawing → ℕ
+example p ds = first-true (containing p ds)
 
 -- the number of whole drawings
 abbrev pub drawing-count : List ℕ → ℕ

@@ -16,7 +16,7 @@ use Rattle.codes.specs.Code.{Rec, Reading, kinds-before, rec-before-by, recs-in
 use Rattle.codes.specs.CodeBytes.{recs-in-length}
 use Rattle.codes.specs.CodeOrder.{kinds-order}
 use Rattle.codes.specs.Greedy.{Greedy}
-use Rattle.growth.specs.Catalogue.{Often-in, support-of}
+use Rattle.growth.specs.Catalogue.{Often-in, figures-of}
 use Rattle.growth.specs.Family.{Family}
 use Rattle.growth.specs.Growth.{Listed-by}
 use Rattle.growth.specs.Frequent.{Frequent-in, often-family}
@@ -28,7 +28,6 @@ use Rattle.growth.specs.ListedBy.{place-in, chosen-places, chosen-rise}
 use Rattle.growth.specs.Walking.{Gives}
 use Rattle.growth.specs.Listings.{Lists-more, Stops}
 use Rattle.growth.specs.ListingLaws.{none-walked, walked-more, walked-past, walked-stopped}
-use Rattle.entries.specs.declared.output.Growth.{Growth}
 use Rattle.entries.specs.declared.output.Growth.the-variants.{To, Stopped}
 use Rattle.growing.specs.declared.grow.Settings.{Settings}
 use Rattle.walks.specs.LabelMarks.{drawings-of, cranes-of}
@@ -265,16 +264,16 @@ module _ {survey labels rank alphabet : List ℕ} {g : Settings} {γ : List Rec}
         }
       where
         step : (cs : List (List Rec)) (old : List ℕ)
-            → Lists-more (support-of survey) (Listed-by kinds-before kinds-order
+            → Lists-more (figures-of survey) (Listed-by kinds-before kinds-order
             (Frequent-in kinds-before survey (g .threshold)) (g .limit) γ
             (candidates-in kind γ alphabet (g .labels) (part from k list))) cs old out₁ written
-            → Lists-more (support-of survey) (Listed-by kinds-before kinds-order
+            → Lists-more (figures-of survey) (Listed-by kinds-before kinds-order
             (Frequent-in kinds-before survey (g .threshold)) (g .limit) γ
             (candidates-in kind γ alphabet (g .labels) (part from (k + 1) list))) cs old out₁ written
         step cs old x =
-            subst (λ (es : List Rec). Lists-more (support-of survey) (Listed-by kinds-before kinds-order Wanted (g .limit) γ es) cs old out₁ written)
+            subst (λ (es : List Rec). Lists-more (figures-of survey) (Listed-by kinds-before kinds-order Wanted (g .limit) γ es) cs old out₁ written)
             (sym up-next)
-            (walked-past (Often-in survey (g .threshold)) (support-of survey) (g .limit) family γ (up-to k) next later x
+            (walked-past (Often-in survey (g .threshold)) (figures-of survey) (g .limit) family γ (up-to k) next later x
             (λ f. bad (f .least)))
 
     -- AFTER IT
@@ -294,22 +293,22 @@ module _ {survey labels rank alphabet : List ℕ} {g : Settings} {γ : List Rec}
           }
         where
           stop : (cs : List (List Rec)) (old : List ℕ)
-              → Lists-more (support-of survey) (Listed-by kinds-before kinds-order
+              → Lists-more (figures-of survey) (Listed-by kinds-before kinds-order
               (Frequent-in kinds-before survey (g .threshold)) (g .limit) γ
               (candidates-in kind γ alphabet (g .labels) (part from k list))) cs old out₁ written
-              → Stops (g .checking) (support-of survey) (Listed-by kinds-before kinds-order
+              → Stops (g .checking) (figures-of survey) (Listed-by kinds-before kinds-order
               (Frequent-in kinds-before survey (g .threshold)) (g .limit) γ
               (candidates-in kind γ alphabet (g .labels) (part from top list))) cs out₂
           stop cs old x =
-              subst (λ (es : List Rec). Stops (g .checking) (support-of survey)
+              subst (λ (es : List Rec). Stops (g .checking) (figures-of survey)
               (Listed-by kinds-before kinds-order (Frequent-in kinds-before survey (g .threshold)) (g .limit) γ es) cs out₂) (sym split-next)
-              (walked-stopped (Often-in survey (g .threshold)) (support-of survey) (g .limit) family γ (up-to k) next later x (a .more)
+              (walked-stopped (Often-in survey (g .threshold)) (figures-of survey) (g .limit) family γ (up-to k) next later x (a .more)
               (candidates-in kind γ alphabet (g .labels) (part (k + 1) top list))
               (rises-back (rec-before-by kinds-before) (snoc (up-to k) next)
               (candidates-in kind γ alphabet (g .labels) (part (k + 1) top list)) rising-next)
               (rises-apart (rec-before-by kinds-before) (snoc (up-to k) next)
               (candidates-in kind γ alphabet (g .labels) (part (k + 1) top list)) rising-next)
-              (subst (λ (c : List Rec). Stops (g .checking) (support-of survey)
+              (subst (λ (c : List Rec). Stops (g .checking) (figures-of survey)
               (Gives kinds-before kinds-order (Often-in survey (g .threshold)) (g .limit) c) (cs ++ x .more) out₂) t
               (u .told (cs ++ x .more) old (x .lists))))
 
@@ -327,19 +326,19 @@ module _ {survey labels rank alphabet : List ℕ} {g : Settings} {γ : List Rec}
           }
         where
           step : (cs : List (List Rec)) (old : List ℕ)
-              → (x : Lists-more (support-of survey) (Listed-by kinds-before kinds-order
+              → (x : Lists-more (figures-of survey) (Listed-by kinds-before kinds-order
               (Frequent-in kinds-before survey (g .threshold)) (g .limit) γ
               (candidates-in kind γ alphabet (g .labels) (part from k list))) cs old out₁ written)
-              → Lists-more (support-of survey) (Gives kinds-before kinds-order (Often-in survey (g .threshold)) (g .limit)
+              → Lists-more (figures-of survey) (Gives kinds-before kinds-order (Often-in survey (g .threshold)) (g .limit)
               δ) (cs ++ x .more) old out₂ m
-              → Lists-more (support-of survey) (Listed-by kinds-before kinds-order
+              → Lists-more (figures-of survey) (Listed-by kinds-before kinds-order
               (Frequent-in kinds-before survey (g .threshold)) (g .limit) γ
               (candidates-in kind γ alphabet (g .labels) (part from (k + 1) list))) cs old out₂ m
           step cs old x y =
-              subst (λ (es : List Rec). Lists-more (support-of survey) (Listed-by kinds-before kinds-order Wanted (g .limit) γ es) cs old out₂ m)
+              subst (λ (es : List Rec). Lists-more (figures-of survey) (Listed-by kinds-before kinds-order Wanted (g .limit) γ es) cs old out₂ m)
               (sym up-next)
-              (walked-more (Often-in survey (g .threshold)) (support-of survey) (g .limit) family γ (up-to k) next later x
-              (subst (λ (c : List Rec). Lists-more (support-of survey) (Gives kinds-before kinds-order (Often-in survey (g .threshold)) (g .limit) c)
+              (walked-more (Often-in survey (g .threshold)) (figures-of survey) (g .limit) family γ (up-to k) next later x
+              (subst (λ (c : List Rec). Lists-more (figures-of survey) (Gives kinds-before kinds-order (Often-in survey (g .threshold)) (g .limit) c)
               (cs ++ x .more) old out₂ m) t y))
 
   -- THE START AND THE END
@@ -353,9 +352,9 @@ module _ {survey labels rank alphabet : List ℕ} {g : Settings} {γ : List Rec}
         size = refl;
         room = a .out-room;
         told = λ cs old l.
-            subst (λ (qs : List ℕ). Lists-more (support-of survey) (Listed-by kinds-before kinds-order Wanted (g .limit) γ
+            subst (λ (qs : List ℕ). Lists-more (figures-of survey) (Listed-by kinds-before kinds-order Wanted (g .limit) γ
             (candidates-in kind γ alphabet (g .labels) qs)) cs old out count) (sym (part-none from list))
-            (none-walked (Often-in survey (g .threshold)) (support-of survey) (g .limit) γ (a .out-room) l);
+            (none-walked (Often-in survey (g .threshold)) (figures-of survey) (g .limit) γ (a .out-room) l);
       }
 
   walk-ends : {cells₁ seen₁ list₁ out₁ : List ℕ} {k written : ℕ} → top ≤ k
@@ -369,7 +368,7 @@ module _ {survey labels rank alphabet : List ℕ} {g : Settings} {γ : List Rec}
         size = w .size;
         room = w .room;
         told = λ cs old l.
-            subst (λ (i : ℕ). Lists-more (support-of survey) (Listed-by kinds-before kinds-order Wanted (g .limit) γ (up-to i)) cs old out₁ written) z
+            subst (λ (i : ℕ). Lists-more (figures-of survey) (Listed-by kinds-before kinds-order Wanted (g .limit) γ (up-to i)) cs old out₁ written) z
             (w .told cs old l);
       }
 

@@ -11,7 +11,7 @@ use Rattle.codes.specs.Code.{Rec, fresh, rows-refusal, decoded, kinds-before}
 use Rattle.codes.specs.CodeOrder.{kinds-order}
 use Rattle.codes.specs.Greedy.{Greedy}
 use Rattle.codes.specs.OwnNumbering.{Well-grown}
-use Rattle.growth.specs.Catalogue.{Often-in, support-of}
+use Rattle.growth.specs.Catalogue.{Often-in, figures-of}
 use Rattle.growth.specs.Growth.{Listed-by}
 use Rattle.growth.specs.Frequent.{Frequent-in}
 use Rattle.growth.specs.Places.{place-of, crane-cell}
@@ -20,7 +20,7 @@ use Rattle.growth.specs.Floors.{Grown-above}
 use Rattle.growth.specs.ListedBy.{Chosen-cells, place-in, records-at}
 use Rattle.growth.specs.Listings.{Lists, Lists-more}
 use Rattle.growth.specs.Walking.{Gives}
-use Rattle.growth.specs.Sizes.{places-size, candidates-size}
+use Rattle.growth.specs.Sizes.{places-size, candidates-size, entry-size}
 use Rattle.entries.specs.ListOutcomes.{Outcome, Room-left}
 use Rattle.entries.specs.declared.output.Growth.{Growth}
 use Rattle.entries.specs.declared.output.Growth.the-variants.{To, Stopped}
@@ -60,7 +60,7 @@ pub record Can-grow-pattern (survey labels rank alphabet : List ℕ) (g : Settin
   pub candidate : Candidate-held (cranes-of survey) (drawings-of survey) (g .threshold) γ cell
   pub well : Well-grown γ
   pub at-hand : At-hand cells seen list base (length γ)
-  pub out-room : 42 * count ≤ length out
+  pub out-room : entry-size * count ≤ length out
 
 -- so many entries, unless one cannot stand there
 abbrev pub growth-of : (stopped : Bool) (count : ℕ) → Growth
@@ -76,8 +76,8 @@ pub record Pattern-grown (survey : List ℕ) (g : Settings) (γ : List Rec) (cel
   pub size : length out-now ≡ length out
   pub room : Room-left out-now r
   pub told :
-      (cs : List (List Rec)) (old : List ℕ) → Lists (support-of survey) cs old out count
-      → Outcome (g .checking) (support-of survey) (Gives kinds-before kinds-order (Often-in survey (g .threshold)) (g .limit) γ) cs old out-now r
+      (cs : List (List Rec)) (old : List ℕ) → Lists (figures-of survey) cs old out count
+      → Outcome (g .checking) (figures-of survey) (Gives kinds-before kinds-order (Often-in survey (g .threshold)) (g .limit) γ) cs old out-now r
 
 -- WHICH RECORDS WERE COUNTED after γ, above some floors, or of a lone device of some kind
 abbrev pub Fit : (kind : ℕ) (floors : List ℕ) → List Rec → Drawing → Rec → Type 0
@@ -102,7 +102,7 @@ pub record Can-walk-candidates (survey labels rank alphabet : List ℕ) (g : Set
   pub chosen : Chosen-cells (cranes-of survey) sets (g .threshold) (g .labels) (part from top list)
   pub low : from ≤ top
   pub at-hand : At-hand cells seen list top (suc (length γ))
-  pub out-room : 42 * count ≤ length out
+  pub out-room : entry-size * count ≤ length out
 
 -- AFTER WALKING the candidates qs
 pub record Candidates-walked (survey alphabet : List ℕ) (g : Settings) (kind : ℕ) (γ : List Rec) (cells seen list : List ℕ) (from top : ℕ)
@@ -113,8 +113,8 @@ pub record Candidates-walked (survey alphabet : List ℕ) (g : Settings) (kind :
   pub size : length out-now ≡ length out
   pub room : Room-left out-now r
   pub told :
-      (cs : List (List Rec)) (old : List ℕ) → Lists (support-of survey) cs old out count
-      → Outcome (g .checking) (support-of survey)
+      (cs : List (List Rec)) (old : List ℕ) → Lists (figures-of survey) cs old out count
+      → Outcome (g .checking) (figures-of survey)
       (Listed-by kinds-before kinds-order (Frequent-in kinds-before survey (g .threshold)) (g .limit) γ
       (candidates-in kind γ alphabet (g .labels) (part from top list)))
       cs old out-now r
@@ -127,10 +127,10 @@ pub record On-the-way (survey alphabet : List ℕ) (g : Settings) (kind : ℕ) (
   pub blank : Blank cells seen
   pub kept : List-kept top list list-now
   pub size : length out-now ≡ length out
-  pub room : 42 * written ≤ length out-now
+  pub room : entry-size * written ≤ length out-now
   pub told :
-      (cs : List (List Rec)) (old : List ℕ) → Lists (support-of survey) cs old out count
-      → Lists-more (support-of survey)
+      (cs : List (List Rec)) (old : List ℕ) → Lists (figures-of survey) cs old out count
+      → Lists-more (figures-of survey)
       (Listed-by kinds-before kinds-order (Frequent-in kinds-before survey (g .threshold)) (g .limit) γ
       (candidates-in kind γ alphabet (g .labels) (part from k list)))
       cs old out-now written

@@ -3,7 +3,7 @@
 use mathlib.Core.Path.{_≡_, refl, sym, ap, _∙_, subst}
 use mathlib.Core.Bool.{Bool, true}
 use mathlib.Core.List.{List, [], _∷_, map}
-use Prim.Native.Nat.{ℕ, _+_, _*_, _/_, _^_, _≤_, _<_}
+use Prim.Native.Nat.{ℕ, _+_, _*_, _≤_, _<_}
 use native.Mathlib.Omega.{arith}
 use borrow.Author.Tests.{eqb-true}
 use lib.ListN.{length, length-map}
@@ -11,18 +11,20 @@ use Rattle.laws.specs.Lists.{snoc}
 use Rattle.graphs.specs.Drawing.{Drawing}
 use Rattle.graphs.specs.Map.{contains}
 use Rattle.graphs.specs.Patterns.{pattern-from-test}
-use Rattle.graphs.specs.Survey.{containing, support}
+use Rattle.graphs.specs.Survey.{containing, support, example}
 use Rattle.codes.specs.Code.{Rec, recs-in, decoded, kinds-before, Least}
 use Rattle.codes.specs.CodeBytes.{recs-in-length}
 use Rattle.codes.specs.CodeOrder.{kinds-order}
 use Rattle.codes.specs.LeastCode.{least-greedy}
-use Rattle.growth.specs.Catalogue.{entry, entry-bytes, Often-in, support-of}
+use Rattle.growth.specs.Sizes.{entry-size}
+use Rattle.growth.specs.Catalogue.{Figures, entry, entry-bytes, Often-in, figures-of}
 use Rattle.growth.specs.Family.{Listable, entry-for}
 use Rattle.growth.specs.Growth.{Listed, Listed-by}
 use Rattle.growth.specs.Frequent.{Frequent, Frequent-in, often-family}
-use Rattle.growth.specs.Places.{place-of, cell-set}
-use Rattle.growth.specs.CellLaws.{crane-cell-set, crane-cell-count, count-true-bound}
-use Rattle.graphs.specs.CraneCounts.{crane-count-bound}
+use Rattle.growth.specs.Places.{place-of, cell-set, cell-count, cell-figures}
+use Rattle.growth.specs.CellLaws.{crane-cell-set, count-true-bound}
+use Rattle.growth.specs.CellFigures.{crane-cell-figures}
+use Rattle.graphs.specs.CraneCounts.{crane-count-bound, crane-count-some}
 use Rattle.growth.specs.CountingExtensions.{All-sections, Counting}
 use Rattle.codes.specs.ReadRows.{good-from-test}
 use Rattle.growth.specs.Floors.{Floors-of, Above, Grown-above}
@@ -42,7 +44,7 @@ use Rattle.taking.specs.declared.take.Taken.the-variants as answers
 use Rattle.walks.specs.LabelMarks.{drawings-of, cranes-of}
 use Rattle.laws.specs.PutRecords.{put-record}
 use Rattle.laws.specs.PutRecordLaws.{put-length}
-use Rattle.growth.specs.EntryLaws.{entry-size}
+use Rattle.growth.specs.EntryLaws.{entry-bytes-length}
 use Rattle.walks.specs.FloorLaws.{least-above}
 use Rattle.walks.specs.PreparedLaws.{drawings-counted, prepared-few, prepared-sections}
 use Rattle.walks.specs.Counts.{Can-count}
@@ -100,16 +102,20 @@ module _ {survey labels rank alphabet : List ℕ} {g : Settings} {γ : List Rec}
   unfolding containing
   containing-few = omega (arith, length-map (drawings-of survey) (contains (decoded γ)), few)
 
-  counted : cell / (2 ^ 32) ≡ support (decoded γ) (cranes-of survey) (drawings-of survey)
-  unfolding support
-  counted = ap (λ (k : ℕ). k / (2 ^ 32)) (a .candidate .cell-is) ∙ crane-cell-count (cranes-of survey) (containing (decoded γ) ds) containing-few
+  -- its cell has its support, and its example: some drawing contains it
+  counted : cell-figures cell ≡ figures-of survey (decoded γ)
+  unfolding support example
+  counted =
+      let some = crane-count-some (cranes-of survey) (containing (decoded γ) ds) (omega (arith, a .candidate .often, a .set-up .one)) in
+      ap cell-figures (a .candidate .cell-is)
+      ∙ crane-cell-figures (containing (decoded γ) ds) containing-few (some .0) (some .2) (cranes-of survey)
 
-  support-few : cell / (2 ^ 32) ≤ 32
+  support-few : cell-count cell ≤ 32
   unfolding support
   support-few =
       omega (
         arith,
-        counted,
+        ap (λ (f : Figures). f .support) counted,
         crane-count-bound (cranes-of survey) (containing (decoded γ) ds),
         count-true-bound (containing (decoded γ) ds),
         containing-few,
@@ -131,14 +137,14 @@ module _ {survey labels rank alphabet : List ℕ} {g : Settings} {γ : List Rec}
         size = ap length e;
         room = omega (arith, a .out-room, ap length e);
         told = λ cs old t.
-            gives-nothing (Often-in survey (g .threshold)) (support-of survey) (g .limit) (λ f. bad (f .least))
+            gives-nothing (Often-in survey (g .threshold)) (figures-of survey) (g .limit) (λ f. bad (f .least))
             (omega (arith, a .out-room, ap length e))
-            (subst (λ (y : List ℕ). Lists (support-of survey) cs old y count) (sym e) t);
+            (subst (λ (y : List ℕ). Lists (figures-of survey) cs old y count) (sym e) t);
       }
 
   -- STOPPED
   pub grow-stopped :
-      Least (decoded γ) γ → Not-there (g .checking) (entry-bytes (entry (cell / (2 ^ 32)) γ)) count out → (z : List ℕ) → z ≡ out
+      Least (decoded γ) γ → Not-there (g .checking) (entry-bytes (entry (cell-figures cell) γ)) count out → (z : List ℕ) → z ≡ out
       → Pattern-grown survey g γ cells seen list base list out count Stopped z
   grow-stopped l s z e =
       record {
@@ -147,30 +153,30 @@ module _ {survey labels rank alphabet : List ℕ} {g : Settings} {γ : List Rec}
         size = ap length e;
         room = omega arith;
         told = λ cs old t.
-            gives-stopped (Often-in survey (g .threshold)) (support-of survey) (g .limit) (frequent l) (a .most)
+            gives-stopped (Often-in survey (g .threshold)) (figures-of survey) (g .limit) (frequent l) (a .most)
             (often-family kinds-before kinds-order (cranes-of survey) (drawings-of survey) (g .threshold) (a .set-up .one))
             (omega (arith, a .most, a .set-up .small)) {checking = g .checking}
-            (subst (λ (y : List ℕ). Lists (support-of survey) cs old y count) (sym e) t)
-            (subst (Not-there (g .checking) (entry-bytes (entry-for (support-of survey) γ)) count) (sym e)
-            (subst (λ (k : ℕ). Not-there (g .checking) (entry-bytes (entry k γ)) count out) counted s));
+            (subst (λ (y : List ℕ). Lists (figures-of survey) cs old y count) (sym e) t)
+            (subst (Not-there (g .checking) (entry-bytes (entry-for (figures-of survey) γ)) count) (sym e)
+            (subst (λ (k : Figures). Not-there (g .checking) (entry-bytes (entry k γ)) count out) counted s));
       }
 
   -- LISTED
   module _ {mid : List ℕ} (p : Entry-put γ cell count out mid) where
-    own : mid ≡ put-record 42 count (entry-bytes (entry-for (support-of survey) γ)) out
-    own = p .is ∙ ap (λ (k : ℕ). put-record 42 count (entry-bytes (entry k γ)) out) counted
+    own : mid ≡ put-record entry-size count (entry-bytes (entry-for (figures-of survey) γ)) out
+    own = p .is ∙ ap (λ (k : Figures). put-record entry-size count (entry-bytes (entry k γ)) out) counted
 
     mid-size : length mid ≡ length out
     mid-size =
         ap length own
-        ∙ put-length 42 count (entry-bytes (entry-for (support-of survey) γ)) out
-        (entry-size (entry-for (support-of survey) γ) (omega (arith, a .most, a .set-up .small))) (p .room)
+        ∙ put-length entry-size count (entry-bytes (entry-for (figures-of survey) γ)) out
+        (entry-bytes-length (entry-for (figures-of survey) γ) (omega (arith, a .most, a .set-up .small))) (p .room)
 
-    listed : (cs : List (List Rec)) (old : List ℕ) → Lists (support-of survey) cs old out count
-        → Lists (support-of survey) (snoc cs γ) old mid (count + 1)
-    listed cs old t = lists-next (support-of survey) cs γ (omega (arith, a .most, a .set-up .small)) old out mid count t own
+    listed : (cs : List (List Rec)) (old : List ℕ) → Lists (figures-of survey) cs old out count
+        → Lists (figures-of survey) (snoc cs γ) old mid (count + 1)
+    listed cs old t = lists-next (figures-of survey) cs γ (omega (arith, a .most, a .set-up .small)) old out mid count t own
 
-    mid-room : 42 * (count + 1) ≤ length mid
+    mid-room : entry-size * (count + 1) ≤ length mid
     mid-room = omega (arith, mid-size, p .room)
 
     -- AS LARGE AS THE LIMIT
@@ -182,7 +188,7 @@ module _ {survey labels rank alphabet : List ℕ} {g : Settings} {γ : List Rec}
           size = mid-size;
           room = mid-room;
           told = λ cs old t.
-              gives-leaf (Often-in survey (g .threshold)) (support-of survey) (g .limit) (frequent (p .least)) (a .most) (omega arith) mid-room
+              gives-leaf (Often-in survey (g .threshold)) (figures-of survey) (g .limit) (frequent (p .least)) (a .most) (omega arith) mid-room
               (listed cs old t);
         }
 
@@ -233,7 +239,7 @@ module _ {survey labels rank alphabet : List ℕ} {g : Settings} {γ : List Rec}
             room = w .room;
             told = λ cs old u.
                 go cs old r (w .told (snoc cs γ) old
-                (subst (λ (k : ℕ). Lists (support-of survey) (snoc cs γ) old mid k) (sym (o .one-more)) (listed (o .put) cs old u)));
+                (subst (λ (k : ℕ). Lists (figures-of survey) (snoc cs γ) old mid k) (sym (o .one-more)) (listed (o .put) cs old u)));
           }
         where
           all : (more : List (List Rec))
@@ -247,20 +253,20 @@ module _ {survey labels rank alphabet : List ℕ} {g : Settings} {γ : List Rec}
               (chosen-places (cranes-of survey) (c .sets) (g .threshold) (g .labels) (part base top list₂) sets-few (c .chosen)) (g .limit) more
 
           own-too : (cs : List (List Rec)) (old : List ℕ) (r : Growth)
-              → Outcome (g .checking) (support-of survey)
+              → Outcome (g .checking) (figures-of survey)
               (Listed kinds-before kinds-order (Frequent-in kinds-before survey (g .threshold)) (g .limit) γ) (snoc cs γ) old z r
-              → Outcome (g .checking) (support-of survey) (Gives kinds-before kinds-order (Often-in survey (g .threshold)) (g .limit) γ) cs old z r
+              → Outcome (g .checking) (figures-of survey) (Gives kinds-before kinds-order (Often-in survey (g .threshold)) (g .limit) γ) cs old z r
           own-too cs old (To k) m =
-              gives-listed (Often-in survey (g .threshold)) (support-of survey) (g .limit) (frequent (o .put .least)) (a .most) m
+              gives-listed (Often-in survey (g .threshold)) (figures-of survey) (g .limit) (frequent (o .put .least)) (a .most) m
           own-too cs old Stopped m =
-              gives-stopped-below (Often-in survey (g .threshold)) (support-of survey) (g .limit) (frequent (o .put .least)) (a .most) m
+              gives-stopped-below (Often-in survey (g .threshold)) (figures-of survey) (g .limit) (frequent (o .put .least)) (a .most) m
 
           go : (cs : List (List Rec)) (old : List ℕ) (r : Growth)
-              → Outcome (g .checking) (support-of survey)
+              → Outcome (g .checking) (figures-of survey)
               (Listed-by kinds-before kinds-order (Frequent-in kinds-before survey (g .threshold)) (g .limit) γ
               (candidates-in 0 γ alphabet (g .labels) (part base top list₂))) (snoc cs γ) old z r
-              → Outcome (g .checking) (support-of survey) (Gives kinds-before kinds-order (Often-in survey (g .threshold)) (g .limit) γ) cs old z r
-          go cs old r m = own-too cs old r (outcome-as (g .checking) (support-of survey) all (snoc cs γ) old z r m)
+              → Outcome (g .checking) (figures-of survey) (Gives kinds-before kinds-order (Often-in survey (g .threshold)) (g .limit) γ) cs old z r
+          go cs old r m = own-too cs old r (outcome-as (g .checking) (figures-of survey) all (snoc cs γ) old z r m)
 
   -- THAT WAS ALL: passed over, stopped, or as large as the limit
   module _ {over stopped : Bool} {more : ℕ} {z : List ℕ} (t : Taken-on (g .checking) γ cell (g .limit) count out over stopped more z) where

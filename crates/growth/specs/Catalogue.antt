@@ -11,28 +11,37 @@ use Rattle.laws.specs.Passing.{passing}
 use Rattle.laws.specs.Rising.{Rises}
 use Rattle.laws.specs.Rows.{rows}
 use Rattle.graphs.specs.Drawing.{Drawing, is-pattern, byte-list}
-use Rattle.graphs.specs.Survey.{survey, cranes, survey-refusal, support}
+use Rattle.graphs.specs.Survey.{survey, cranes, survey-refusal, support, example}
 use Rattle.codes.specs.Code.{Rec, rec-bytes, before-by, Least-by, kinds-before}
+use Rattle.growth.specs.Sizes.{entry-size}
+
+-- THE FIGURES OF AN ENTRY, what it tells of its pattern beside the code: the support, and the example, the number of a drawing
+pub record Figures : Type 0 where
+  pub support : ℕ
+  pub example : ℕ
+
+abbrev pub figures : (support example : ℕ) → Figures
+figures n d = record { support = n; example = d }
 
 pub record Entry : Type 0 where
-  pub support : ℕ
+  pub figures : Figures
   pub code : List Rec
 
-abbrev pub entry : (support : ℕ) → (code : List Rec) → Entry
-entry n rs = record { support = n; code = rs }
+abbrev pub entry : (figures : Figures) → (code : List Rec) → Entry
+entry f rs = record { figures = f; code = rs }
 
--- WHAT AN ENTRY SAYS, of a family of patterns (those that are wanted) with a figure for each: a wanted pattern of at most l cables,
--- its least code and its figure
-pub record Entry-of (labels : Rec → Rec → Bool) (Wanted : Drawing → Type 0) (figure : Drawing → ℕ) (l : ℕ) (e : Entry) : Type 0 where
+-- WHAT AN ENTRY SAYS, of a family of patterns (those that are wanted) with figures for each: a wanted pattern of at most l cables,
+-- its least code and its figures
+pub record Entry-of (labels : Rec → Rec → Bool) (Wanted : Drawing → Type 0) (figure : Drawing → Figures) (l : ℕ) (e : Entry) : Type 0 where
   pub pattern : Drawing
   pub is-one : is-pattern pattern ≡ true
   pub least : Least-by labels pattern (e .code)
   pub size : length (e .code) ≤ l
-  pub support-is : figure pattern ≡ e .support
+  pub figures-are : figure pattern ≡ e .figures
   pub wanted : Wanted pattern
 
 -- THE LIST OF A FAMILY: codes rise; each entry is a wanted pattern's; each wanted pattern has one
-pub record List-of (labels : Rec → Rec → Bool) (Wanted : Drawing → Type 0) (figure : Drawing → ℕ) (l : ℕ) (es : List Entry) : Type 0 where
+pub record List-of (labels : Rec → Rec → Bool) (Wanted : Drawing → Type 0) (figure : Drawing → Figures) (l : ℕ) (es : List Entry) : Type 0 where
   pub rise : Rises (before-by labels) (map (λ e. e .code) es)
   pub sound : (e : Entry) → Mem e es → Entry-of labels Wanted figure l e
   pub whole :
@@ -46,39 +55,42 @@ few-cables l e = leb (length (e .code)) l
 abbrev pub entries-within : (l : ℕ) → List Entry → List Entry
 entries-within l = passing (few-cables l)
 
--- A CATALOGUE: the patterns that drawings of at least s cranes contain, each with its support. `cr` has the crane of each drawing.
+-- A CATALOGUE: the patterns that drawings of at least s cranes contain, each with its support, and as its example the lowest number of a
+-- drawing that contains it. `cr` has the crane of each drawing.
 abbrev pub Often : (cr : List ℕ) (ds : List Drawing) (s : ℕ) → Drawing → Type 0
 Often cr ds s p = s ≤ support p cr ds
 
-abbrev pub support-in : (cr : List ℕ) (ds : List Drawing) → Drawing → ℕ
-support-in cr ds p = support p cr ds
+abbrev pub figures-in : (cr : List ℕ) (ds : List Drawing) → Drawing → Figures
+figures-in cr ds p = figures (support p cr ds) (example p ds)
 
 -- of a survey's bytes
 abbrev pub Often-in : (bytes : List ℕ) (s : ℕ) → Drawing → Type 0
 Often-in bs = Often (cranes bs) (survey bs)
 
-abbrev pub support-of : (bytes : List ℕ) → Drawing → ℕ
-support-of bs = support-in (cranes bs) (survey bs)
+abbrev pub figures-of : (bytes : List ℕ) → Drawing → Figures
+figures-of bs = figures-in (cranes bs) (survey bs)
 
 abbrev pub Frequent-entry : (labels : Rec → Rec → Bool) (cr : List ℕ) (ds : List Drawing) (s l : ℕ) → Entry → Type 0
-Frequent-entry labels cr ds s = Entry-of labels (Often cr ds s) (support-in cr ds)
+Frequent-entry labels cr ds s = Entry-of labels (Often cr ds s) (figures-in cr ds)
 
 abbrev pub Catalogue-by : (labels : Rec → Rec → Bool) (cr : List ℕ) (ds : List Drawing) (s l : ℕ) (es : List Entry) → Type 0
-Catalogue-by labels cr ds s = List-of labels (Often cr ds s) (support-in cr ds)
+Catalogue-by labels cr ds s = List-of labels (Often cr ds s) (figures-in cr ds)
 
 abbrev pub Catalogue : (cr : List ℕ) (ds : List Drawing) (s l : ℕ) (es : List Entry) → Type 0
 Catalogue = Catalogue-by kinds-before
 
--- AS BYTES: number of cables, support, the code's records, then zeros up to 8 records
+-- AS BYTES: number of cables, support, the code's records, then zeros up to 8 records, and the example
 unfoldable pub entry-bytes : Entry → List ℕ
-entry-bytes e = (length (e .code) ∷ e .support ∷ []) ++ rec-bytes (e .code) ++ replicate (40 - 5 * length (e .code)) 0
+entry-bytes e =
+    (length (e .code) ∷ e .figures .support ∷ []) ++ rec-bytes (e .code)
+    ++ replicate (40 - 5 * length (e .code)) 0 ++ (e .figures .example ∷ [])
 
 unfoldable pub all-bytes : List Entry → List ℕ
 all-bytes es = concat (map entry-bytes es)
 
 -- of n entries as bytes, those of at most l cables: byte 0 is the number of cables
 abbrev pub entries-up-to : (l n : ℕ) → (bytes : List ℕ) → List ℕ
-entries-up-to l n bs = concat (passing (λ (r : List ℕ). leb (getD r 0 0) l) (rows 42 n bs))
+entries-up-to l n bs = concat (passing (λ (r : List ℕ). leb (getD r 0 0) l) (rows entry-size n bs))
 
 -- THE STATEMENT: each accepted survey has just one catalogue
 unfoldable pub Catalogue-there : Type 0

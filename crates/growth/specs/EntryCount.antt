@@ -165,7 +165,7 @@ module _ (none : Drawing) (ds : List Drawing) (sized : Sized-survey none ds) whe
   has-number :
       (cr : List ℕ) (s l : ℕ) → 1 ≤ s → l ≤ 8 → (e : Entry) → Frequent-entry kinds-before cr ds s l e
       → (k : ℕ) × (k < 8446368) × Code-number (e .code) k
-  has-number cr s l one small e t = go (some-contains p none cr ds (omega (arith, t .support-is, t .wanted)))
+  has-number cr s l one small e t = go (some-contains p none cr ds (omega (arith, t .wanted)))
     where
       p : Drawing
       p = t .pattern

@@ -24,9 +24,10 @@ use lib.Seq.{take-suc, take-suc-set, take-all, getD-take, getD-append-add, lengt
 use borrow.Author.Tests.{lt-ltb, le-ltb}
 use Rattle.laws.specs.Lists.{Mem, snoc, concat, map-append}
 use Rattle.laws.specs.Rows.{Sized, concat-length}
-use Rattle.codes.specs.Code.{rec-bytes}
-use Rattle.codes.specs.CodeBytes.{rec-bytes-length, rec-bytes-in, recs-in-length}
-use Rattle.growth.specs.Catalogue.{Entry, entry, entry-bytes, all-bytes}
+use Rattle.codes.specs.Code.{rec-bytes, recs-in}
+use Rattle.codes.specs.CodeBytes.{rec-bytes-length, rec-bytes-in, recs-in-length, recs-in-bytes}
+use Rattle.growth.specs.Sizes.{entry-size}
+use Rattle.growth.specs.Catalogue.{Figures, figures, Entry, entry-bytes, all-bytes}
 use Rattle.growth.specs.Entries.{byte-or-zero, told, Bytes-written, Writes-on}
 use Rattle.laws.specs.PutRecords.{put-record}
 use Rattle.laws.specs.PutRecordLaws.{put-behind}
@@ -58,89 +59,136 @@ padded-at bs n i w h g l = go (decLt i n)
         ∙ byte-past bs n i (omega arith)
 
 -- ONE ENTRY: of a code's bytes
-module _ (bs : List ℕ) (m s : ℕ) (room : length bs ≡ 100) (few : m ≤ 8) where
-  told-is : told bs m s ≡ m ∷ s ∷ (take (5 * m) bs ++ replicate (40 - 5 * m) 0)
-  unfolding entry-bytes
-  told-is = rw (recs-in-length m bs, rec-bytes-in m bs (omega arith))
+module _ (bs : List ℕ) (m : ℕ) (f : Figures) (room : length bs ≡ 100) (few : m ≤ 8) where
+  -- the records with zeros behind them
+  abbrev padded : List ℕ
+  padded = take (5 * m) bs ++ replicate (40 - 5 * m) 0
 
-  pub told-size : length (told bs m s) ≡ 42
-  told-size =
-      ap length told-is
-      ∙ omega (
+  padded-size : length padded ≡ 40
+  padded-size =
+      omega (
         arith,
         length-append (take (5 * m) bs) (replicate (40 - 5 * m) 0),
         length-take-le (5 * m) bs (omega arith),
         length-replicate {A = ℕ} (40 - 5 * m) 0,
       )
 
-  told-at : (i : ℕ) → 2 ≤ i → i < 42 → getD (told bs m s) i 0 ≡ byte-or-zero bs (5 * m) (i - 2)
-  told-at i l h =
+  told-is : told bs m f ≡ m ∷ f .support ∷ (padded ++ (f .example ∷ []))
+  unfolding entry-bytes
+  told-is = rw (recs-in-length m bs, rec-bytes-in m bs (omega arith))
+
+  pub told-size : length (told bs m f) ≡ entry-size
+  told-size = ap length told-is ∙ omega (arith, length-append padded (f .example ∷ []), padded-size)
+
+  -- byte by byte
+  behind-two : (i : ℕ) → 2 ≤ i → getD (told bs m f) i 0 ≡ getD (padded ++ (f .example ∷ [])) (i - 2) 0
+  behind-two i l =
       let e : i ≡ suc (suc (i - 2)) = omega arith in
-      ap (λ (x : List ℕ). getD x i 0) told-is
-      ∙ ap (λ (k : ℕ). getD (m ∷ s ∷ (take (5 * m) bs ++ replicate (40 - 5 * m) 0)) k 0) e
+      ap (λ (x : List ℕ). getD x i 0) told-is ∙ ap (λ (k : ℕ). getD (m ∷ f .support ∷ (padded ++ (f .example ∷ []))) k 0) e
+
+  told-at : (i : ℕ) → 2 ≤ i → i < 42 → getD (told bs m f) i 0 ≡ byte-or-zero bs (5 * m) (i - 2)
+  told-at i l h =
+      behind-two i l ∙ List·getD-append padded (f .example ∷ []) 0 (i - 2) (omega (arith, padded-size))
       ∙ padded-at bs (5 * m) (i - 2) 40 (omega arith) (omega arith) (omega arith)
 
+  told-last : getD (told bs m f) 42 0 ≡ f .example
+  told-last =
+      behind-two 42 (omega arith) ∙ ap (λ (k : ℕ). getD (padded ++ (f .example ∷ [])) k 0) (omega (arith, padded-size))
+      ∙ getD-append-add padded (f .example ∷ []) 0 0
+
   -- WHILE IT IS WRITTEN
-  pub written-start : (out : List ℕ) → length out ≡ 42 → Bytes-written (told bs m s) 2 (set (set out 0 m) 1 s)
+  pub written-start : (out : List ℕ) → length out ≡ entry-size → Bytes-written (told bs m f) 2 (set (set out 0 m) 1 (f .support))
   written-start [] h = absurd (omega arith)
   written-start (a ∷ []) h = absurd (omega arith)
   written-start (a ∷ b ∷ out) h = record { size = h; front = ap (take 2) (sym told-is) }
 
-  pub written-next :
-      (i : ℕ) (out : List ℕ) (b : ℕ) → 2 ≤ i → i < 42 → Bytes-written (told bs m s) i out → b ≡ byte-or-zero bs (5 * m) (i - 2)
-      → Bytes-written (told bs m s) (i + 1) (set out i b)
-  written-next i out b l h w e =
+  written-next :
+      (i : ℕ) (out : List ℕ) (b : ℕ) → i < entry-size → Bytes-written (told bs m f) i out → b ≡ getD (told bs m f) i 0
+      → Bytes-written (told bs m f) (i + 1) (set out i b)
+  written-next i out b h w e =
       record {
         size = length-set out i b ∙ w .size;
         front =
             rw (
               add-one,
               take-suc-set out i b (omega (arith, w .size)),
-              take-suc (told bs m s) i 0 (omega (arith, told-size)),
+              take-suc (told bs m f) i 0 (omega (arith, told-size)),
               w .front,
               e,
-              told-at i l h,
             ) refl;
       }
 
-  pub written-end : (i : ℕ) (out : List ℕ) → 42 ≤ i → Bytes-written (told bs m s) i out → out ≡ told bs m s
-  written-end i out h w =
-      sym (take-all i out (omega (arith, w .size))) ∙ w .front ∙ take-all i (told bs m s) (omega (arith, told-size))
+  -- the example is its last byte
+  pub written-end : (out : List ℕ) → Bytes-written (told bs m f) 42 out → set out 42 (f .example) ≡ told bs m f
+  written-end out w =
+      let t = written-next 42 out (f .example) (omega arith) w (sym told-last) in
+      sym (take-all 43 (set out 42 (f .example)) (omega (arith, t .size))) ∙ t .front ∙ take-all 43 (told bs m f) (omega (arith, told-size))
 
--- BYTE BY BYTE, whatever the support
+-- BYTE BY BYTE, whatever the figures
 pub writes-none : (bs : List ℕ) (m i : ℕ) (out : List ℕ) → Writes-on bs m i i out out
-writes-none bs m i out = record { on = λ s w. w }
+writes-none bs m i out = record { on = λ f w. w }
 
 module _ (bs : List ℕ) (m : ℕ) (room : length bs ≡ 100) (few : m ≤ 8) (from i : ℕ) (low : 2 ≤ i) (high : i < 42) (before out : List ℕ)
     (w : Writes-on bs m from i before out) where
+  writes-byte : (b : ℕ) → b ≡ byte-or-zero bs (5 * m) (i - 2) → Writes-on bs m from (i + 1) before (set out i b)
+  writes-byte b e =
+      record { on = λ f v. written-next bs m f room few i out b (omega arith) (w .on f v) (e ∙ sym (told-at bs m f room few i low high)) }
+
   pub writes-record : i < 2 + 5 * m → (b : ℕ) → b ≡ getD bs (i - 2) 0 → Writes-on bs m from (i + 1) before (set out i b)
-  writes-record h b e =
-      record { on = λ s v. written-next bs m s room few i out b low high (w .on s v) (e ∙ byte-within bs (5 * m) (i - 2) (omega arith)) }
+  writes-record h b e = writes-byte b (e ∙ byte-within bs (5 * m) (i - 2) (omega arith))
 
   pub writes-zero : 2 + 5 * m ≤ i → Writes-on bs m from (i + 1) before (set out i 0)
-  writes-zero h = record { on = λ s v. written-next bs m s room few i out 0 low high (w .on s v) (byte-past bs (5 * m) (i - 2) (omega arith)) }
+  writes-zero h = writes-byte 0 (byte-past bs (5 * m) (i - 2) (omega arith))
 
 -- ALL ENTRIES
--- an entry of at most 8 records has its 42 bytes
-pub entry-size : (e : Entry) → length (e .code) ≤ 8 → length (entry-bytes e) ≡ 42
+-- an entry of at most 8 records has its bytes
+pub entry-bytes-length : (e : Entry) → length (e .code) ≤ 8 → length (entry-bytes e) ≡ entry-size
 unfolding entry-bytes
-entry-size e h =
+entry-bytes-length e h =
     omega (
       arith,
+      length-append (rec-bytes (e .code) ++ replicate (40 - 5 * length (e .code)) 0) (e .figures .example ∷ []),
       length-append (rec-bytes (e .code)) (replicate (40 - 5 * length (e .code)) 0),
       rec-bytes-length (e .code),
       length-replicate {A = ℕ} (40 - 5 * length (e .code)) 0,
     )
 
-pub entries-sized : (es : List Entry) → ((e : Entry) → Mem e es → length (e .code) ≤ 8) → Sized 42 (map entry-bytes es)
+-- READ BACK: its number of cables, its figures and its records
+pub entry-cables : (e : Entry) → getD (entry-bytes e) 0 0 ≡ length (e .code)
+unfolding entry-bytes
+entry-cables e = refl
+
+pub entry-figures : (e : Entry) → length (e .code) ≤ 8 → figures (getD (entry-bytes e) 1 0) (getD (entry-bytes e) 42 0) ≡ e .figures
+unfolding entry-bytes
+entry-figures e h =
+    let size : 42 ≡ length front + 0 = omega (arith, length-append front last, entry-bytes-length e h) in
+    ap (figures (e .figures .support)) (ap (λ (k : ℕ). getD (front ++ last) k 0) size ∙ getD-append-add front last 0 0)
+  where
+    front : List ℕ
+    front = (length (e .code) ∷ e .figures .support ∷ []) ++ rec-bytes (e .code) ++ replicate (40 - 5 * length (e .code)) 0
+
+    last : List ℕ
+    last = e .figures .example ∷ []
+
+pub entry-records : (e : Entry) → recs-in (getD (entry-bytes e) 0 0) (drop 2 (entry-bytes e)) ≡ e .code
+unfolding entry-bytes
+entry-records e =
+    ap (recs-in (length (e .code))) (append-assoc (rec-bytes (e .code)) zeros (e .figures .example ∷ []))
+    ∙ recs-in-bytes (e .code) (zeros ++ (e .figures .example ∷ []))
+  where
+    zeros : List ℕ
+    zeros = replicate (40 - 5 * length (e .code)) 0
+
+pub entries-sized : (es : List Entry) → ((e : Entry) → Mem e es → length (e .code) ≤ 8) → Sized entry-size (map entry-bytes es)
 unfolding Sized
 entries-sized [] h = tt
-entries-sized (e ∷ es) h = (entry-size e (h e (Mem.here refl)), entries-sized es (λ f m. h f (Mem.there m)))
+entries-sized (e ∷ es) h = (entry-bytes-length e (h e (Mem.here refl)), entries-sized es (λ f m. h f (Mem.there m)))
 
 -- so all of them together have theirs
-pub all-bytes-length : (es : List Entry) → ((e : Entry) → Mem e es → length (e .code) ≤ 8) → length (all-bytes es) ≡ 42 * length es
+pub all-bytes-length : (es : List Entry) → ((e : Entry) → Mem e es → length (e .code) ≤ 8) → length (all-bytes es) ≡ entry-size * length es
 unfolding all-bytes
-all-bytes-length es h = concat-length 42 (map entry-bytes es) (entries-sized es h) ∙ ap (λ (k : ℕ). 42 * k) (length-map es entry-bytes)
+all-bytes-length es h =
+    concat-length entry-size (map entry-bytes es) (entries-sized es h) ∙ ap (λ (k : ℕ). entry-size * k) (length-map es entry-bytes)
 
 pub all-bytes-append : (es gs : List Entry) → all-bytes (es ++ gs) ≡ all-bytes es ++ all-bytes gs
 unfolding all-bytes concat
@@ -151,10 +199,10 @@ all-bytes-append (e ∷ es) gs =
 -- ONE ENTRY MORE behind those that are there
 pub entry-behind :
     (es : List Entry) (e : Entry) (output rest : List ℕ) → ((f : Entry) → Mem f es → length (f .code) ≤ 8)
-    → output ≡ all-bytes es ++ rest → put-record 42 (length es) (entry-bytes e) output ≡ all-bytes (snoc es e) ++ drop 42 rest
+    → output ≡ all-bytes es ++ rest → put-record entry-size (length es) (entry-bytes e) output ≡ all-bytes (snoc es e) ++ drop entry-size rest
 unfolding all-bytes
 entry-behind es e output rest h is =
-    ap (put-record 42 (length es) (entry-bytes e)) is
-    ∙ ap (λ (n : ℕ). put-record 42 n (entry-bytes e) (concat (map entry-bytes es) ++ rest)) (sym (length-map es entry-bytes))
-    ∙ put-behind 42 (map entry-bytes es) (entry-bytes e) rest (entries-sized es h)
-    ∙ ap (λ (rs : List (List ℕ)). concat rs ++ drop 42 rest) (sym (map-append entry-bytes es (e ∷ [])))
+    ap (put-record entry-size (length es) (entry-bytes e)) is
+    ∙ ap (λ (n : ℕ). put-record entry-size n (entry-bytes e) (concat (map entry-bytes es) ++ rest)) (sym (length-map es entry-bytes))
+    ∙ put-behind entry-size (map entry-bytes es) (entry-bytes e) rest (entries-sized es h)
+    ∙ ap (λ (rs : List (List ℕ)). concat rs ++ drop entry-size rest) (sym (map-append entry-bytes es (e ∷ [])))

@@ -4,14 +4,13 @@ use mathlib.Core.Path.{_≡_}
 use mathlib.Core.Bool.{Bool, true}
 use mathlib.Core.List.{List, _∷_, _++_}
 use mathlib.Core.Logic.{_⊎_}
-use Prim.Native.Nat.{ℕ}
 use Rattle.laws.specs.Lists.{Mem}
 use Rattle.graphs.specs.Drawing.{Drawing, is-pattern}
 use Rattle.graphs.specs.Map.{contains, Same}
 use Rattle.graphs.specs.Embedding.{Ends-in-range}
 use Rattle.graphs.specs.Graph.{Pattern}
 use Rattle.codes.specs.Code.{Rec, decoded, Least-by}
-use Rattle.growth.specs.Catalogue.{Entry, entry}
+use Rattle.growth.specs.Catalogue.{Figures, Entry, entry}
 
 -- WHAT A LIST LISTS: the least code of a pattern that is wanted
 pub record Listable (labels : Rec → Rec → Bool) (Wanted : Drawing → Type 0) (rs : List Rec) : Type 0 where
@@ -23,8 +22,8 @@ pub record Listable (labels : Rec → Rec → Bool) (Wanted : Drawing → Type 0
 abbrev pub Closed : (Drawing → Type 0) → Type 0
 Closed Wanted = (p q : Drawing) → Pattern p → Pattern q → contains p q ≡ true → Wanted q → Wanted p
 
--- a figure of patterns up to a map that keeps kinds and cables
-abbrev pub Kept-by-maps : (Drawing → ℕ) → Type 0
+-- figures of patterns up to a map that keeps kinds and cables
+abbrev pub Kept-by-maps : (Drawing → Figures) → Type 0
 Kept-by-maps figure = (p q : Drawing) → Ends-in-range p → Ends-in-range q → Same p q → figure p ≡ figure q
 
 -- it can be decided what is wanted
@@ -39,5 +38,5 @@ pub record Family (labels : Rec → Rec → Bool) (Wanted : Drawing → Type 0) 
   pub all : (γ : List Rec) (e : Rec) (rest : List Rec) → Listable labels Wanted (γ ++ e ∷ rest) → Mem e (next γ)
 
 -- the entry of a code
-abbrev pub entry-for : (Drawing → ℕ) → List Rec → Entry
+abbrev pub entry-for : (Drawing → Figures) → List Rec → Entry
 entry-for figure rs = entry (figure (decoded rs)) rs

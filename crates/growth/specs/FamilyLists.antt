@@ -21,17 +21,17 @@ use Rattle.codes.specs.ReadRows.{good-from-test}
 use Rattle.codes.specs.FullCode.{Coded, coded-from-test, coded-length, coded-simple}
 use Rattle.codes.specs.CodesTell.{code-along}
 use Rattle.codes.specs.Decoded.{decoded-pattern, decoded-code}
-use Rattle.growth.specs.Catalogue.{Entry, entry, Entry-of, List-of}
+use Rattle.growth.specs.Catalogue.{Entry, entry, Entry-of, List-of, Figures}
 use Rattle.growth.specs.Family.{Listable, Closed, Family, Kept-by-maps, entry-for}
 use Rattle.growth.specs.FamilyLaws.{listable-prefix, decide-listable}
 use Rattle.growth.specs.Growth.{Listed, Listed-by, listed-leaf, listed-there, listed-siblings}
 
-pub entry-eq : (e g : Entry) → e .support ≡ g .support → e .code ≡ g .code → e ≡ g
-entry-eq e g p q = λ x. record { support = p x; code = q x }
+pub entry-eq : (e g : Entry) → e .figures ≡ g .figures → e .code ≡ g .code → e ≡ g
+entry-eq e g p q = λ x. record { figures = p x; code = q x }
 
-module _ (labels : Rec → Rec → Bool) (o : Label-order labels) (Wanted : Drawing → Type 0) (figure : Drawing → ℕ) (l : ℕ) (closed : Closed Wanted)
-    (kept : Kept-by-maps figure) where
-  -- what a pattern's least code describes is the pattern, so its figure is the pattern's, and it is wanted if the pattern is
+module _ (labels : Rec → Rec → Bool) (o : Label-order labels) (Wanted : Drawing → Type 0) (figure : Drawing → Figures) (l : ℕ)
+    (closed : Closed Wanted) (kept : Kept-by-maps figure) where
+  -- what a pattern's least code describes is the pattern, so its figures are the pattern's, and it is wanted if the pattern is
   own-pattern : (p : Drawing) (rs : List Rec) → is-pattern p ≡ true → Code-of p rs → Pattern (decoded rs)
   own-pattern p rs k m = decoded-pattern rs (m .good) bytes
     where
@@ -89,7 +89,7 @@ module _ (labels : Rec → Rec → Bool) (o : Label-order labels) (Wanted : Draw
           go (c, h, q) =
               let w = t .sound c h in
               subst (Entry-of labels Wanted figure l) q
-              (record { pattern = decoded c; is-one = w .0 .drawn; least = w .0 .least; size = w .1; support-is = refl; wanted = w .0 .wanted })
+              (record { pattern = decoded c; is-one = w .0 .drawn; least = w .0 .least; size = w .1; figures-are = refl; wanted = w .0 .wanted })
 
       whole :
           (p : Drawing) (rs : List Rec) → is-pattern p ≡ true → length (p .cables) ≤ l → Wanted p → Least-by labels p rs
@@ -124,7 +124,7 @@ module _ (labels : Rec → Rec → Bool) (o : Label-order labels) (Wanted : Draw
       listed-siblings labels o (Listable labels Wanted) l (listable-prefix labels o Wanted (f .closed)) decide (f .next) (f .all) γ h
       (λ e. below-there (snoc γ e))
 
-module _ (labels : Rec → Rec → Bool) (o : Label-order labels) (Wanted : Drawing → Type 0) (figure : Drawing → ℕ) (l : ℕ) where
+module _ (labels : Rec → Rec → Bool) (o : Label-order labels) (Wanted : Drawing → Type 0) (figure : Drawing → Figures) (l : ℕ) where
   -- THERE IS ONE
   pub list-exists : Family labels Wanted → Kept-by-maps figure → (es : List Entry) × List-of labels Wanted figure l es
   list-exists f kept =
@@ -137,7 +137,7 @@ module _ (labels : Rec → Rec → Bool) (o : Label-order labels) (Wanted : Draw
       let f = a .sound e m in
       let simple = pattern-from-test (f .pattern) (f .is-one) .simple in
       let n = coded-length (f .pattern) simple (e .code) (coded-from-test (f .pattern) simple (e .code) (f .least .code)) in
-      subst (λ (x : Entry). Mem x gs) (entry-eq (entry (figure (f .pattern)) (e .code)) e (f .support-is) refl)
+      subst (λ (x : Entry). Mem x gs) (entry-eq (entry (figure (f .pattern)) (e .code)) e (f .figures-are) refl)
       (b .whole (f .pattern) (e .code) (f .is-one) (omega (arith, f .size, n)) (f .wanted) (f .least))
 
   code-before : Entry → Entry → Bool

@@ -1,6 +1,6 @@
 -- Frequent least codes: what a catalogue lists. They are a closed family, and each of their records comes from a cable of some drawing. Rests
 -- on FamilyLaws and on support. Assumes nothing.
-use mathlib.Core.Path.{_≡_, refl}
+use mathlib.Core.Path.{_≡_, refl, ap₂}
 use mathlib.Core.Bool.{Bool, true, false, false≢true}
 use mathlib.Core.List.{List, [], _∷_, _++_, map}
 use mathlib.Core.Logic.{_⊎_, inl, inr}
@@ -13,13 +13,13 @@ use Rattle.graphs.specs.Drawing.{Drawing}
 use Rattle.graphs.specs.Map.{contains}
 use Rattle.graphs.specs.Survey.{survey, cranes, containing, support}
 use Rattle.graphs.specs.CraneCounts.{crane-count-some}
-use Rattle.graphs.specs.Containment.{support-falls, same-support}
+use Rattle.graphs.specs.Containment.{support-falls, same-support, same-example}
 use Rattle.codes.specs.Code.{Rec, fresh, rows-refusal, decoded}
 use Rattle.codes.specs.CodeOrder.{Label-order}
 use Rattle.codes.specs.ReadRows.{good-from-test}
 use Rattle.codes.specs.Greedy.{Fits}
 use Rattle.codes.specs.LeastExtension.{candidates, fits-candidate}
-use Rattle.growth.specs.Catalogue.{Often, support-in}
+use Rattle.growth.specs.Catalogue.{figures, Often, figures-in}
 use Rattle.growth.specs.Family.{Listable, Closed, Decidable, Family, Kept-by-maps}
 use Rattle.growth.specs.FamilyLaws.{contained-fits, listable-prefix, decide-listable}
 
@@ -40,12 +40,12 @@ Frequent labels cr ds s = Listable labels (Often cr ds s)
 abbrev pub Frequent-in : (labels : Rec → Rec → Bool) (bytes : List ℕ) (s : ℕ) → List Rec → Type 0
 Frequent-in labels bs = Frequent labels (cranes bs) (survey bs)
 
--- it is a closed family, support does not look at the devices' numbers, and what is frequent can be decided
+-- it is a closed family, support and example do not look at the devices' numbers, and what is frequent can be decided
 pub often-closed : (cr : List ℕ) (ds : List Drawing) (s : ℕ) → Closed (Often cr ds s)
 often-closed cr ds s p q a b h often = omega (arith, often, support-falls p q (a .simple .ends) (b .simple .ends) h cr ds)
 
-pub support-kept : (cr : List ℕ) (ds : List Drawing) → Kept-by-maps (support-in cr ds)
-support-kept cr ds p q a b s = same-support p q a b s cr ds
+pub figures-kept : (cr : List ℕ) (ds : List Drawing) → Kept-by-maps (figures-in cr ds)
+figures-kept cr ds p q a b s = ap₂ figures (same-support p q a b s cr ds) (same-example p q a b s ds)
 
 pub often-decided : (cr : List ℕ) (ds : List Drawing) (s : ℕ) → Decidable (Often cr ds s)
 often-decided cr ds s p = go (decLe s (support p cr ds))

@@ -21,6 +21,7 @@ pub mod Catalogues
 pub mod FigureLists
 pub mod Marks
 pub mod CellLaws
+pub mod CellFigures
 pub mod RecordOrder
 pub mod PlaceLaws
 pub mod PlacedRecords

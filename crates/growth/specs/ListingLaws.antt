@@ -12,7 +12,8 @@ use Rattle.laws.specs.Rising.{Rises}
 use Rattle.graphs.specs.Drawing.{Drawing}
 use Rattle.codes.specs.Code.{Rec, kinds-before, rec-before-by}
 use Rattle.codes.specs.CodeOrder.{kinds-order}
-use Rattle.growth.specs.Catalogue.{entry-bytes, all-bytes}
+use Rattle.growth.specs.Sizes.{entry-size}
+use Rattle.growth.specs.Catalogue.{entry-bytes, all-bytes, Figures}
 use Rattle.growth.specs.Family.{Listable, Family, entry-for}
 use Rattle.growth.specs.FamilyLists.{below-there, rest-there}
 use Rattle.growth.specs.Growth.{Listed, Listed-by, listed-none, listed-leaf}
@@ -23,18 +24,18 @@ use Rattle.growth.specs.PageLaws.{codes-further, stands-not-at}
 use Rattle.growth.specs.Listings.{Lists, Lists-more, Stops}
 
 -- NOTHING YET
-pub lists-none : (figure : Drawing → ℕ) (page : List ℕ) → Lists figure [] page page 0
+pub lists-none : (figure : Drawing → Figures) (page : List ℕ) → Lists figure [] page page 0
 unfolding all-bytes concat
 lists-none figure page = record { count-is = refl; small = λ c m. elim m [ ]; bytes = refl }
 
 -- the same list, of no records more
-pub lists-same : {figure : Drawing → ℕ} {cs : List (List Rec)} {old out : List ℕ} {count : ℕ} → Lists figure cs old out count
+pub lists-same : {figure : Drawing → Figures} {cs : List (List Rec)} {old out : List ℕ} {count : ℕ} → Lists figure cs old out count
     → Lists figure (cs ++ []) old out count
 lists-same {figure} {cs} {old} {out} {count} t = subst (λ (xs : List (List Rec)). Lists figure xs old out count) (sym (append-nil cs)) t
 
 -- what cannot stand there, with more behind it, and told in other words
 pub stops-further :
-    {checking : Bool} {figure : Drawing → ℕ} {P Q : List (List Rec) → Type 0} {cs ds : List (List Rec)} {on : List ℕ}
+    {checking : Bool} {figure : Drawing → Figures} {P Q : List (List Rec) → Type 0} {cs ds : List (List Rec)} {on : List ℕ}
     → (s : Stops checking figure P ds on) (more rest : List (List Rec)) → (ds ++ s .more) ++ rest ≡ cs ++ more → Q more
     → Stops checking figure Q cs on
 stops-further {checking} {figure} {ds = ds} {on = on} s more rest e q =
@@ -45,10 +46,10 @@ stops-further {checking} {figure} {ds = ds} {on = on} s more rest e q =
           (codes-further figure checking (ds ++ s .more) rest on (s .back));
     }
 
-module _ (Wanted : Drawing → Type 0) (figure : Drawing → ℕ) (l : ℕ) where
+module _ (Wanted : Drawing → Type 0) (figure : Drawing → Figures) (l : ℕ) where
   -- A CODE THAT IS NOT LISTED gives nothing
   pub gives-nothing :
-      {cs : List (List Rec)} {γ : List Rec} {old out : List ℕ} {count : ℕ} → (Listable kinds-before Wanted γ → ⊥) → 42 * count ≤ length out
+      {cs : List (List Rec)} {γ : List Rec} {old out : List ℕ} {count : ℕ} → (Listable kinds-before Wanted γ → ⊥) → entry-size * count ≤ length out
       → Lists figure cs old out count → Lists-more figure (Gives kinds-before kinds-order Wanted l γ) cs old out count
   gives-nothing bad room t = record { more = []; which = passed bad; lists = lists-same t; room = room }
 
@@ -90,7 +91,7 @@ module _ (Wanted : Drawing → Type 0) (figure : Drawing → ℕ) (l : ℕ) wher
 
     -- nothing goes on from one as large as the limit
     pub gives-leaf :
-        {old out : List ℕ} {count : ℕ} → l ≤ length γ → 42 * count ≤ length out → Lists figure (snoc cs γ) old out count
+        {old out : List ℕ} {count : ℕ} → l ≤ length γ → entry-size * count ≤ length out → Lists figure (snoc cs γ) old out count
         → Lists-more figure (Gives kinds-before kinds-order Wanted l γ) cs old out count
     gives-leaf large room t =
         gives-listed
@@ -103,7 +104,7 @@ module _ (Wanted : Drawing → Type 0) (figure : Drawing → ℕ) (l : ℕ) wher
 
   -- NO NEXT RECORD yet
   pub none-walked :
-      {cs : List (List Rec)} (γ : List Rec) {old out : List ℕ} {count : ℕ} → 42 * count ≤ length out → Lists figure cs old out count
+      {cs : List (List Rec)} (γ : List Rec) {old out : List ℕ} {count : ℕ} → entry-size * count ≤ length out → Lists figure cs old out count
       → Lists-more figure (Listed-by kinds-before kinds-order (Listable kinds-before Wanted) l γ []) cs old out count
   none-walked γ room t =
       record { more = []; which = listed-none kinds-before kinds-order (Listable kinds-before Wanted) l γ; lists = lists-same t; room = room }

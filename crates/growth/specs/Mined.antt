@@ -8,12 +8,12 @@ use Rattle.laws.specs.Lists.{snoc}
 use Rattle.laws.specs.Selections.{each, only-if}
 use Rattle.laws.specs.Rising.{sorted}
 use Rattle.graphs.specs.Drawing.{Drawing, is-pattern}
-use Rattle.graphs.specs.Survey.{support}
+use Rattle.graphs.specs.Survey.{support, example}
 use Rattle.codes.specs.Code.{Rec, fresh, end, read-rows, rows-good, decoded, rec-before-by}
 use Rattle.codes.specs.Extension.{edge-record, chord-record}
 use Rattle.codes.specs.FirstRecord.{first-record}
 use Rattle.codes.specs.LeastSearch.{ways, is-least}
-use Rattle.growth.specs.Catalogue.{Entry, entry}
+use Rattle.growth.specs.Catalogue.{figures, Entry, entry}
 
 -- THE RECORDS THAT MAY GO ON in a drawing: first any cable, each way round; then along any cable from a device of the
 -- rightmost path to a new device, and from the path's end to a device of the path
@@ -37,6 +37,6 @@ module _ (labels : Rec → Rec → Bool) (cr : List ℕ) (ds : List Drawing) (s 
       each (sorted (rec-before-by labels) (each ds (next-records γ))) λ e.
       only-if (is-frequent (snoc γ e)) (snoc γ e ∷ mined n (snoc γ e))
 
-  -- THE CATALOGUE: each with its support
+  -- THE CATALOGUE: each with its support and its example
   unfoldable pub mined-entries : (l : ℕ) → List Entry
-  mined-entries l = map (λ rs. entry (support (decoded rs) cr ds) rs) (mined l [])
+  mined-entries l = map (λ rs. entry (figures (support (decoded rs) cr ds) (example (decoded rs) ds)) rs) (mined l [])

@@ -1,6 +1,10 @@
--- How many numbers the tables of a search hold, each said once; a program's arrays are of these lengths. Assumes nothing: these
--- are definitions.
+-- How many bytes an entry has, and how many numbers the tables of a search hold, each said once; a program's arrays are of these lengths.
+-- Assumes nothing: these are definitions.
 use Prim.Native.Nat.{ℕ, _+_, _*_}
+
+-- `Entry::BYTES`: number of cables, support, 8 records of 5 bytes, example
+abbrev pub entry-size : ℕ
+entry-size = 43
 
 -- `TABLES`: 32 drawings, each with a label for every two of 10 devices, a slot for each neighbour, the end of each slot's group and the bit
 -- of each label, and behind them the sheets of one crane: 12,900

@@ -17,6 +17,7 @@ use Rattle.graphs.specs.Patterns.{pattern-from-test}
 use Rattle.codes.specs.Code.{Rec, before-by, Least-by}
 use Rattle.codes.specs.CodeOrder.{Label-order}
 use Rattle.codes.specs.FullCode.{coded-from-test, coded-length}
+use Rattle.growth.specs.Sizes.{entry-size}
 use Rattle.growth.specs.Catalogue.{
   Entry,
   entry,
@@ -27,11 +28,12 @@ use Rattle.growth.specs.Catalogue.{
   entry-bytes,
   all-bytes,
   entries-up-to,
+  Figures,
 }
 use Rattle.growth.specs.FamilyLists.{list-unique}
 use Rattle.growth.specs.EntryLaws.{entries-sized}
 
-module _ (labels : Rec → Rec → Bool) (Wanted : Drawing → Type 0) (figure : Drawing → ℕ) {l m : ℕ} (low : l ≤ m) where
+module _ (labels : Rec → Rec → Bool) (Wanted : Drawing → Type 0) (figure : Drawing → Figures) {l m : ℕ} (low : l ≤ m) where
   -- THE ENTRIES OF AT MOST l CABLES are the list with limit l
   pub list-within : (es : List Entry) → List-of labels Wanted figure m es → List-of labels Wanted figure l (entries-within l es)
   list-within es a =
@@ -51,7 +53,7 @@ module _ (labels : Rec → Rec → Bool) (Wanted : Drawing → Type 0) (figure :
             is-one = g .is-one;
             least = g .least;
             size = leb-true (length (e .code)) l (k .1);
-            support-is = g .support-is;
+            figures-are = g .figures-are;
             wanted = g .wanted;
           }
 
@@ -76,7 +78,7 @@ entry-bytes-within l es rest h =
     ap (λ (rs : List (List ℕ)). concat (passing (λ (r : List ℕ). leb (getD r 0 0) l) rs)) cut
     ∙ ap concat (passing-map entry-bytes (λ (r : List ℕ). leb (getD r 0 0) l) es)
   where
-    cut : rows 42 (length es) (concat (map entry-bytes es) ++ rest) ≡ map entry-bytes es
+    cut : rows entry-size (length es) (concat (map entry-bytes es) ++ rest) ≡ map entry-bytes es
     cut =
-        ap (λ (n : ℕ). rows 42 n (concat (map entry-bytes es) ++ rest)) (sym (length-map es entry-bytes))
-        ∙ rows-concat 42 (map entry-bytes es) rest (entries-sized es h)
+        ap (λ (n : ℕ). rows entry-size n (concat (map entry-bytes es) ++ rest)) (sym (length-map es entry-bytes))
+        ∙ rows-concat entry-size (map entry-bytes es) rest (entries-sized es h)

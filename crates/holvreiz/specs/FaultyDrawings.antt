@@ -12,7 +12,8 @@ use Rattle.laws.specs.Rows.{rows-length}
 use Rattle.graphs.specs.Drawing.{Drawing, drawing-refusal}
 use Rattle.graphs.specs.Survey as surveys
 use Rattle.graphs.specs.Survey.{records-in, drawings-refusal, length-refusal, bytes-refusal, survey-refusal}
-use Rattle.growth.specs.Catalogue.{Entry, Often-in, support-of}
+use Rattle.growth.specs.Sizes.{entry-size}
+use Rattle.growth.specs.Catalogue.{Entry, Often-in, figures-of, Figures}
 use Rattle.books.specs.Book.{Small, unsupported, book-refusal}
 use Rattle.records.specs.declared.catalogued.Catalogued.{Catalogued}
 use Rattle.records.specs.Catalogued.{catalogued-refusal}
@@ -69,7 +70,7 @@ survey-drawing bs s l =
 
 -- A LIST that is refused names the drawing of its refusal, and none with 15
 pub list-drawing :
-    (f : surveys.Refusal) (Wanted : Drawing → Type 0) (figure : Drawing → ℕ) (l : ℕ) (r : Catalogued) (o z : List ℕ) → f .drawing < 32
+    (f : surveys.Refusal) (Wanted : Drawing → Type 0) (figure : Drawing → Figures) (l : ℕ) (r : Catalogued) (o z : List ℕ) → f .drawing < 32
     → List-says f Wanted figure l r o z → catalogued-refusal r .drawing < 32
 list-drawing f Wanted figure l r o z low says = go (f .number) says
   where
@@ -78,12 +79,12 @@ list-drawing f Wanted figure l r o z low says = go (f .number) says
     written false es w = unfold surveys.refusal in rw (w .0) (lit< tt)
 
     go : (n : ℕ) → List-as n f Wanted figure l r o z → catalogued-refusal r .drawing < 32
-    go zero w = written (ltb (length o) (42 * length (w .0))) (w .0) (w .2)
+    go zero w = written (ltb (length o) (entry-size * length (w .0))) (w .0) (w .2)
     go (suc n) w = rw (w .0) low
 
 pub says-drawing : (bs : List ℕ) (s l : ℕ) (r : Catalogued) (o z : List ℕ) → Catalogue-says bs s l r o z → catalogued-refusal r .drawing < 32
 says-drawing bs s l r o z =
-    list-drawing (survey-refusal bs s l) (Often-in bs s) (support-of bs) l r o z (survey-drawing bs s l)
+    list-drawing (survey-refusal bs s l) (Often-in bs s) (figures-of bs) l r o z (survey-drawing bs s l)
 
 pub book-drawing : (a b l : ℕ) (r : Catalogued) (o z : List ℕ) → Book-says a b l r o z → catalogued-refusal r .drawing < 32
 unfolding surveys.refusal

@@ -1,5 +1,5 @@
 -- A record of any size put in its place: it is read back, the others are as they were, and behind whole records it is one
--- more. The catalogue's entries of 42 bytes and the tables of 100 labels are instances. Assumes nothing.
+-- more. The catalogue's entries and the tables of 100 labels are instances. Assumes nothing.
 use mathlib.Core.Path.{_≡_, sym, ap, ap₂, _∙_}
 use mathlib.Core.List.{List, [], _∷_, _++_, append-assoc, append-nil}
 use Prim.Native.Nat.{ℕ, suc, _+_, _*_, _-_, _≤_, _<_}

@@ -1,7 +1,7 @@
 -- Records of any size: a list cut into records of w elements, read back, put together. The drawing's 73 bytes, the
--- entry's 42, the code record's 5 and the cable's 3 are instances. Assumes nothing.
+-- entry's 43, the code record's 5 and the cable's 3 are instances. Assumes nothing.
 use mathlib.Core.Path.{_≡_, refl, sym, ap, ap₂, _∙_}
-use mathlib.Core.List.{List, [], _∷_, _++_, append-assoc, append-nil}
+use mathlib.Core.List.{List, [], _∷_, _++_, append-assoc}
 use Prim.Native.Nat.{ℕ, zero, suc, _+_, _*_, _-_, _/_, _%_, _≤_, _<_}
 use native.Mathlib.Nat.{
   not-suc-le-zero,
@@ -20,8 +20,6 @@ use native.Mathlib.Numerals.{add-one}
 use native.Mathlib.Omega.{arith}
 use lib.ListN.{length, getD, take, drop, length-append, length-take, length-drop}
 use lib.Seq.{
-  take-append-seam,
-  drop-append-seam,
   take-append-le,
   drop-append-le,
   drop-drop,
@@ -32,7 +30,7 @@ use lib.Seq.{
   take-at,
   drop-at,
 }
-use Rattle.laws.specs.Lists.{snoc, concat, nil-of-length}
+use Rattle.laws.specs.Lists.{snoc, concat}
 
 module _ {A : Type 0} where
   -- the k-th record of w elements

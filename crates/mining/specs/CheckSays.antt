@@ -7,6 +7,7 @@ use lib.Dec.{eqb}
 use lib.ListN.{length}
 use Rattle.graphs.specs.Survey as surveys
 use Rattle.graphs.specs.Survey.{survey, cranes, survey-refusal}
+use Rattle.growth.specs.Sizes.{entry-size}
 use Rattle.growth.specs.Catalogue.{Entry, Catalogue, all-bytes}
 use Rattle.records.specs.declared.refusal.Refusal.the-variants.{ListLength}
 use Rattle.records.specs.declared.survey.SurveyChecked.{SurveyChecked}
@@ -23,7 +24,7 @@ Told-by (Refused r d) A = ⊥
 
 -- the length of a list: whole entries, or 18
 abbrev pub entries-checked : (list : List ℕ) → SurveyChecked
-entries-checked list = cond (eqb (length list % 42) 0) (survey-check.Accepted (length list / 42)) (survey-check.Refused ListLength 0)
+entries-checked list = cond (eqb (length list % entry-size) 0) (survey-check.Accepted (length list / entry-size)) (survey-check.Refused ListLength 0)
 
 -- the first of two answers that refuses, or the second
 abbrev pub first-checked : SurveyChecked → SurveyChecked → SurveyChecked
@@ -33,7 +34,7 @@ first-checked (survey-check.Refused r d) c = survey-check.Refused r d
 -- THE REFUSAL: that of a catalogue, but 15; then 18, the list's length is no multiple of an entry's
 unfoldable pub check-refusal : (bytes : List ℕ) (s l : ℕ) (list : List ℕ) → surveys.Refusal
 check-refusal bs s l list =
-    cond (eqb (survey-refusal bs s l .number) 0) (surveys.refusal (cond (eqb (length list % 42) 0) 0 18) 0) (survey-refusal bs s l)
+    cond (eqb (survey-refusal bs s l .number) 0) (surveys.refusal (cond (eqb (length list % entry-size) 0) 0 18) 0) (survey-refusal bs s l)
 
 -- YES exactly if the list is the bytes of the survey's one catalogue
 abbrev pub List-checked : (bytes : List ℕ) (s l : ℕ) (list : List ℕ) → ListChecked → Type 0

@@ -6,8 +6,8 @@ use Prim.Native.Nat.{ℕ}
 use lib.ListN.{length, replicate}
 use Rattle.graphs.specs.Survey as surveys
 use Rattle.graphs.specs.Survey.{survey, cranes, survey-refusal, refusal}
-use Rattle.growth.specs.Catalogue.{Often-in, support-of}
-use Rattle.growth.specs.Frequent.{often-closed, support-kept}
+use Rattle.growth.specs.Catalogue.{Often-in, figures-of}
+use Rattle.growth.specs.Frequent.{often-closed, figures-kept}
 use Rattle.growth.specs.Settings.{Accepted-settings}
 use Rattle.records.specs.declared.refusal.Refusal.{Refusal}
 use Rattle.records.specs.declared.refusal.Refusal.the-variants.{OutputLength}
@@ -22,20 +22,20 @@ use Rattle.mining.specs.CatalogueSays.{Catalogue-says}
 
 -- the catalogue is written, or 15
 abbrev pub Writes : (bytes : List ℕ) (s l : ℕ) (out : List ℕ) → Catalogued → (out-now : List ℕ) → Type 0
-Writes bs s l o r z = List-written (Often-in bs s) (support-of bs) l o r z
+Writes bs s l o r z = List-written (Often-in bs s) (figures-of bs) l o r z
 
 module _ {bs : List ℕ} {s l : ℕ} (a : Accepted-settings bs s l) where
   -- WRITTEN TO THE END
   pub writes-all : (o z : List ℕ) (k : ℕ) → Survey-listed bs s l false o (To k) z → length z ≡ length o → Writes bs s l o (Entries k) z
   writes-all =
-      list-written (Often-in bs s) (support-of bs) l (often-closed (cranes bs) (survey bs) s) (support-kept (cranes bs) (survey bs)) (a .limit-high)
+      list-written (Often-in bs s) (figures-of bs) l (often-closed (cranes bs) (survey bs) s) (figures-kept (cranes bs) (survey bs)) (a .limit-high)
 
   -- DOES NOT FIT
   pub writes-empty :
       (o y z : List ℕ) → Survey-listed bs s l false o Stopped y → length y ≡ length o → z ≡ replicate (length y) 0
       → Writes bs s l o (Refused OutputLength 0) z
   writes-empty =
-      list-too-long (Often-in bs s) (support-of bs) l (often-closed (cranes bs) (survey bs) s) (support-kept (cranes bs) (survey bs)) (a .limit-high)
+      list-too-long (Often-in bs s) (figures-of bs) l (often-closed (cranes bs) (survey bs) s) (figures-kept (cranes bs) (survey bs)) (a .limit-high)
 
 -- THE OUTCOME OF THE CALL
 module _ (bs : List ℕ) (s l : ℕ) (o z : List ℕ) where
@@ -43,8 +43,8 @@ module _ (bs : List ℕ) (s l : ℕ) (o z : List ℕ) where
   pub says-turned-back : (r : Refusal) (d : ℕ) → survey-refusal bs s l ≡ refusal (number-of r) d → z ≡ o → Catalogue-says bs s l (Refused r d) o z
   unfolding refusal
   says-turned-back r d e =
-      says-refused (survey-refusal bs s l) (Often-in bs s) (support-of bs) l (Refused r d) o z (rw e (number-positive r)) (sym e)
+      says-refused (survey-refusal bs s l) (Often-in bs s) (figures-of bs) l (Refused r d) o z (rw e (number-positive r)) (sym e)
 
   -- the catalogue, or 15
   pub says-written : (r : Catalogued) → survey-refusal bs s l .number ≡ 0 → Writes bs s l o r z → Catalogue-says bs s l r o z
-  says-written r e w = says-list (survey-refusal bs s l) (Often-in bs s) (support-of bs) l r o z e w
+  says-written r e w = says-list (survey-refusal bs s l) (Often-in bs s) (figures-of bs) l r o z e w

@@ -14,7 +14,8 @@ use Rattle.graphs.specs.Drawing.{Drawing}
 use Rattle.graphs.specs.Survey as surveys
 use Rattle.codes.specs.Code.{kinds-before}
 use Rattle.codes.specs.CodeOrder.{kinds-order}
-use Rattle.growth.specs.Catalogue.{Entry, all-bytes}
+use Rattle.growth.specs.Sizes.{entry-size}
+use Rattle.growth.specs.Catalogue.{Figures, Entry, all-bytes}
 use Rattle.growth.specs.FamilyLists.{list-unique}
 use Rattle.records.specs.Catalogued.{catalogued-refusal}
 use Rattle.entries.specs.Written.{Entries-written, List-as, List-says}
@@ -22,7 +23,7 @@ use Rattle.records.specs.declared.catalogued.Catalogued.{Catalogued}
 use Rattle.records.specs.declared.catalogued.Catalogued.the-variants.{Entries, Refused}
 use Rattle.printing.specs.declared.answer.Printed.{Printed}
 use Rattle.printing.specs.declared.answer.Printed.the-variants.{Bytes, TooShort}
-use Rattle.text_lines.specs.Texts.{catalogue-text, refusal-text, text-of}
+use Rattle.text_lines.specs.Texts.{longest-line, catalogue-text, refusal-text, text-of}
 use Rattle.text_lines.specs.TextLaws.{entries-back}
 use Rattle.printing.specs.TextSizes.{Bytes-in, Machine-numbers, text-size}
 use Rattle.printing.specs.Says.{Made, Text-says}
@@ -44,10 +45,10 @@ text-refused f n e (Refused q d) z h = ap (λ (x : surveys.Refusal). refusal-tex
 
 -- THE NUMBERS OF AN ANSWER are numbers of the machine's, if the lengths are
 written-low :
-    (es : List Entry) (r : Catalogued) (o z : List ℕ) → length o < 10 ^ 20 → (t : Bool) → ltb (length o) (42 * length es) ≡ t
+    (es : List Entry) (r : Catalogued) (o z : List ℕ) → length o < 10 ^ 20 → (t : Bool) → ltb (length o) (entry-size * length es) ≡ t
     → Entries-written t es r o z → Machine-numbers r
 written-low es r o z h true e w = subst Machine-numbers (sym (w .0)) (lit< tt)
-written-low es r o z h false e w = subst Machine-numbers (sym (w .0)) (omega (arith, ltb-false (length o) (42 * length es) e))
+written-low es r o z h false e w = subst Machine-numbers (sym (w .0)) (omega (arith, ltb-false (length o) (entry-size * length es) e))
 
 refused-low :
     (f : surveys.Refusal) (n : ℕ) → f .number ≡ suc n → f .drawing < 10 ^ 20 → (r : Catalogued)
@@ -56,7 +57,7 @@ unfolding surveys.refusal
 refused-low f n e h (Entries m) c = absurd (omega (arith, e, ap (λ (x : surveys.Refusal). x .number) c))
 refused-low f n e h (Refused q d) c = omega (arith, ap (λ (x : surveys.Refusal). x .drawing) c)
 
-module _ (f : surveys.Refusal) (Wanted : Drawing → Type 0) (figure : Drawing → ℕ) (l : ℕ) where
+module _ (f : surveys.Refusal) (Wanted : Drawing → Type 0) (figure : Drawing → Figures) (l : ℕ) where
   -- what is not refused has at most 8 cables: so many does an entry show
   list-text :
       (f .number ≡ 0 → l ≤ 8) → (r : Catalogued) (o z : List ℕ) → List-says f Wanted figure l r o z
@@ -65,14 +66,14 @@ module _ (f : surveys.Refusal) (Wanted : Drawing → Type 0) (figure : Drawing �
     where
       go : (n : ℕ) → f .number ≡ n → List-as n f Wanted figure l r o z → List-text-as n f Wanted figure l (length o) (text-of r z)
       go zero e (es, list, written) =
-          (es, list, text-written es (λ g m. omega (arith, list .sound g m .size, low e)) (ltb (length o) (42 * length es)) r o z written)
+          (es, list, text-written es (λ g m. omega (arith, list .sound g m .size, low e)) (ltb (length o) (entry-size * length es)) r o z written)
       go (suc n) e (same, kept) = text-refused f n e r z same
 
   answer-low : f .drawing < 10 ^ 20 → (r : Catalogued) (o z : List ℕ) → length o < 10 ^ 20 → List-says f Wanted figure l r o z → Machine-numbers r
   answer-low small r o z room says = go (f .number) refl says
     where
       go : (n : ℕ) → f .number ≡ n → List-as n f Wanted figure l r o z → Machine-numbers r
-      go zero e (es, list, written) = written-low es r o z room (ltb (length o) (42 * length es)) refl written
+      go zero e (es, list, written) = written-low es r o z room (ltb (length o) (entry-size * length es)) refl written
       go (suc n) e (same, kept) = refused-low f n e small r same
 
   -- MAKING IT: the call, then the text of what it answers and leaves
@@ -95,7 +96,8 @@ module _ (f : surveys.Refusal) (Wanted : Drawing → Type 0) (figure : Drawing �
       go : (n : ℕ) → List-text-as n f Wanted figure l room t → List-text-as n f Wanted figure l room u → t ≡ u
       go zero (es, c, e) (gs, d, h) =
           e
-          ∙ ap (λ (hs : List Entry). entries-text (ltb room (42 * length hs)) hs) (list-unique kinds-before kinds-order Wanted figure l es gs c d)
+          ∙ ap (λ (hs : List Entry). entries-text (ltb room (entry-size * length hs)) hs)
+          (list-unique kinds-before kinds-order Wanted figure l es gs c d)
           ∙ sym h
       go (suc n) e h = e ∙ sym h
 
@@ -111,12 +113,12 @@ module _ (f : surveys.Refusal) (Wanted : Drawing → Type 0) (figure : Drawing �
 module _
     {f : surveys.Refusal}
     {Wanted : Drawing → Type 0}
-    {figure : Drawing → ℕ}
+    {figure : Drawing → Figures}
     {l room : ℕ}
     {r : Printed}
     {out out-now : List ℕ}
     (says : List-text-says f Wanted figure l room r out out-now)
-    (enough : 164 * (room / 42) + 40 ≤ length out) where
+    (enough : longest-line * (room / entry-size) + 40 ≤ length out) where
   whole : Made false (says .text) r out out-now
   whole = made-whole (says .text) r out out-now (omega (arith, says .size)) (says .made)
 
@@ -136,6 +138,6 @@ module _
 
 -- what is printed lies within the bytes
 pub text-within :
-    {f : surveys.Refusal} {Wanted : Drawing → Type 0} {figure : Drawing → ℕ} {l room n : ℕ} {out out-now : List ℕ}
+    {f : surveys.Refusal} {Wanted : Drawing → Type 0} {figure : Drawing → Figures} {l room n : ℕ} {out out-now : List ℕ}
     → List-text-whole f Wanted figure l room n out out-now → n ≤ length out-now
 text-within {n = n} {out-now = out-now} p = omega (arith, p .count, ap length (p .first), length-take n out-now)

@@ -1,4 +1,4 @@
--- How many bytes a text has at most: 164 for the line of an entry, 40 for what else there may be. Assumes nothing.
+-- How many bytes a text has at most: those of the longest line for each entry, 40 for what else there may be. Assumes nothing.
 use mathlib.Core.Bool.{Bool, true, false, _&&_, cond}
 use mathlib.Core.List.{List, [], _∷_, _++_, map}
 use Prim.Native.Nat.{ℕ, zero, suc, _+_, _*_, _/_, _^_, _≤_, _<_, min}
@@ -11,6 +11,7 @@ use lib.Seq.{getD-take, getD-drop}
 use Rattle.laws.specs.Lists.{concat}
 use Rattle.laws.specs.Rows.{rows}
 use Rattle.codes.specs.Code.{rec-in, recs-in}
+use Rattle.growth.specs.Sizes.{entry-size}
 use Rattle.records.specs.declared.refusal.Refusal.{Refusal}
 use Rattle.records.specs.Refusals.{number-of, number-small}
 use Rattle.records.specs.declared.catalogued.Catalogued.{Catalogued}
@@ -20,6 +21,7 @@ use Rattle.text_lines.specs.Texts.{
   drawing-word,
   record-text,
   entry-text,
+  longest-line,
   catalogue-text,
   drawing-text,
   refusal-text,
@@ -80,25 +82,26 @@ record-size bs h =
     ))
 
 -- AN ENTRY
-entry-size : (bs : List ℕ) → Bytes-in bs → length (entry-text (entry-shown bs)) ≤ 164
+line-size : (bs : List ℕ) → Bytes-in bs → length (entry-text (entry-shown bs)) ≤ longest-line
 unfolding entry-text entry-shown recs-in
-entry-size bs h =
+line-size bs h =
     simp length-append (omega (
       arith,
       byte-digits (getD bs 1 0) (h 1),
+      byte-digits (getD bs 42 0) (h 42),
       rows-size 5 20 rec-in (λ r. 32 ∷ record-text r) record-size (min (getD bs 0 0) 8) (drop 2 bs) (low-drop 2 bs h),
     ))
 
 -- A CATALOGUE, whose count is a number of the machine's
 catalogue-size :
     (n : ℕ) (bs : List ℕ) → n < 10 ^ 20 → Bytes-in bs
-    → length (catalogue-text (entries-shown n bs)) ≤ 164 * (length bs / 42) + 40
+    → length (catalogue-text (entries-shown n bs)) ≤ longest-line * (length bs / entry-size) + 40
 unfolding catalogue-text
 catalogue-size n bs g h =
-    simp length-append (rw (entries-count (min n (length bs / 42)) bs) (omega (
+    simp length-append (rw (entries-count (min n (length bs / entry-size)) bs) (omega (
       arith,
-      decimal-length (min n (length bs / 42)) 19 (omega arith),
-      rows-size 42 164 entry-shown entry-text entry-size (min n (length bs / 42)) bs h,
+      decimal-length (min n (length bs / entry-size)) 19 (omega arith),
+      rows-size entry-size longest-line entry-shown entry-text line-size (min n (length bs / entry-size)) bs h,
     )))
 
 -- A REFUSAL
@@ -123,6 +126,6 @@ Machine-numbers (Refused r d) = d < 10 ^ 20
 
 pub text-size :
     (a : Catalogued) (bs : List ℕ) → Machine-numbers a → Bytes-in bs
-    → length (text-of a bs) ≤ 164 * (length bs / 42) + 40
+    → length (text-of a bs) ≤ longest-line * (length bs / entry-size) + 40
 text-size (Entries n) bs g h = catalogue-size n bs g h
 text-size (Refused r d) bs g h = omega (arith, refusal-size r d g)

@@ -12,6 +12,7 @@ use text_lines::place::put_number;
 use text_lines::place::put_word;
 ghost use Prim.Native.Nat.{_*_, _≤_};
 ghost use lib.ListN.{length};
+ghost use Rattle.growth.specs.Sizes.{entry-size};
 ghost use Rattle.records.specs.Refusals.{number-of};
 ghost use Rattle.text_lines.specs.Texts.{lines, first-entries, entries-shown, catalogue-text, drawing-text, refusal-text, text-of};
 ghost use Rattle.text_lines.specs.Writing.{Wrote};
@@ -19,7 +20,7 @@ ghost use Rattle.printing.specs.Says.{Text-says};
 
 // The lines of the first n entries.
 fn put_lines(text: &mut [u8], place: Place, entries: &[u8], n: usize) -> Place
-    requires { ⌜ 42 * n ≤ length (now entries) ⌝ }
+    requires { ⌜ entry-size * n ≤ length (now entries) ⌝ }
     ensures { λ r. ⌜ Wrote (now (text .entry)) place (lines (first-entries n (now (entries .entry)))) r (now (text .exit)) ⌝ }
 {
     let mut next = place;

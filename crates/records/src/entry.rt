@@ -1,24 +1,31 @@
-// An entry of a catalogue: its number of cables, its support, and its code's records, with zeros up to the most of them.
+// An entry of a catalogue: its number of cables, its support, its code's records, with zeros up to the most of them, and its example.
 use crate::code::Code;
 ghost use mathlib.Core.Path.{_≡_};
 
-// The two numbers that an entry begins with.
+// The numbers of an entry: the two that it begins with, and the one that it ends with.
 pub struct Entry {
     pub cables: usize,
     pub support: usize,
+    pub example: usize,
 }
 
 impl Entry {
-    pub const BYTES: usize = Entry::RECORDS_AT + Entry::MOST_RECORDS * Code::RECORD_BYTES;
+    pub const BYTES: usize = Entry::EXAMPLE_AT + 1;
 
     pub const MOST_RECORDS: usize = 8;
 
     pub const RECORDS_AT: usize = 2;
 
-    // An entry for a pattern of so many cables with so much support.
-    pub fn new(cables: usize, support: usize) -> Self
-        ensures { λ r. ⌜ r ≡ record { cables = cables; support = support } ⌝ }
+    pub const EXAMPLE_AT: usize = Entry::RECORDS_AT + Entry::MOST_RECORDS * Code::RECORD_BYTES;
+
+    // An entry for a pattern of so many cables with so much support, which this drawing contains and none before it.
+    pub fn new(cables: usize, support: usize, example: usize) -> Self
+        ensures { λ r. ⌜ r ≡ record { cables = cables; support = support; example = example } ⌝ }
     {
-        Entry { cables, support }
+        Entry {
+            cables,
+            support,
+            example,
+        }
     }
 }

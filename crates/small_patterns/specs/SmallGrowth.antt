@@ -14,9 +14,10 @@ use Rattle.codes.specs.CodeBytes.{recs-in-length}
 use Rattle.codes.specs.CodeFronts.{front-shorter, front-then, front-records-kept}
 use Rattle.codes.specs.CodeOrder.{kinds-order}
 use Rattle.codes.specs.ReadRows.{good-from-test}
-use Rattle.growth.specs.Catalogue.{entry, entry-bytes}
-use Rattle.growth.specs.EntryLaws.{entry-size}
-use Rattle.growth.specs.Family.{Listable}
+use Rattle.growth.specs.Sizes.{entry-size}
+use Rattle.growth.specs.Catalogue.{entry-bytes}
+use Rattle.growth.specs.EntryLaws.{entry-bytes-length}
+use Rattle.growth.specs.Family.{Listable, entry-for}
 use Rattle.growth.specs.FamilyLaws.{listable-prefix}
 use Rattle.growth.specs.Growth.{Listed, Listed-by, listed-all}
 use Rattle.growth.specs.Walking.{Gives}
@@ -86,7 +87,7 @@ module _ {g : BookBounds} {code : List ℕ} {m n : ℕ} {out : List ℕ} {count 
   low = omega (arith, own-size, a .most, a .few .limit)
 
   -- NO ROOM
-  pub small-full : {z : List ℕ} → Entry-handed false (entry-bytes (entry 0 (recs-in m code))) count out false z
+  pub small-full : {z : List ℕ} → Entry-handed false (entry-bytes (entry-for unsupported (recs-in m code))) count out false z
       → Small-grown g code m out count Stopped code z
   small-full {z} (short, is) =
       record {
@@ -100,16 +101,18 @@ module _ {g : BookBounds} {code : List ℕ} {m n : ℕ} {out : List ℕ} {count 
       }
 
   -- WRITTEN
-  module _ {mid : List ℕ} (h : Entry-handed false (entry-bytes (entry 0 (recs-in m code))) count out true mid) where
+  module _ {mid : List ℕ} (h : Entry-handed false (entry-bytes (entry-for unsupported (recs-in m code))) count out true mid) where
     small-mid-size : length mid ≡ length out
     small-mid-size =
-        ap length (h .1) ∙ put-length 42 count (entry-bytes (entry 0 (recs-in m code))) out (entry-size (entry 0 (recs-in m code)) low) (h .0)
+        ap length (h .1)
+        ∙ put-length entry-size count (entry-bytes (entry-for unsupported (recs-in m code))) out
+        (entry-bytes-length (entry-for unsupported (recs-in m code)) low) (h .0)
 
     listed : (cs : List (List Rec)) (old : List ℕ) → Lists unsupported cs old out count
         → Lists unsupported (snoc cs (recs-in m code)) old mid (count + 1)
     listed cs old t = lists-next unsupported cs (recs-in m code) low old out mid count t (h .1)
 
-    mid-room : 42 * (count + 1) ≤ length mid
+    mid-room : entry-size * (count + 1) ≤ length mid
     mid-room = omega (arith, small-mid-size, h .0)
 
     -- AS LARGE AS THE LIMIT

@@ -13,6 +13,7 @@ use Rattle.codes.specs.RecordPut.{Front-kept, Record-put}
 use Rattle.code_checks.specs.declared.answer.Verdict.{Verdict}
 use Rattle.code_checks.specs.declared.answer.Verdict.the-variants as verdict
 use Rattle.coding.specs.LeastSays.{Least-says}
+use Rattle.growth.specs.Sizes.{entry-size}
 use Rattle.growth.specs.Family.{Listable}
 use Rattle.growth.specs.Growth.{Listed-by}
 use Rattle.growth.specs.Walking.{Gives}
@@ -70,7 +71,7 @@ pub record Can-grow-small (g : BookBounds) (code : List ℕ) (m n : ℕ) (out : 
   pub held : Small-held g code m n
   pub listable : Listable kinds-before (Asked g) (recs-in m code)
   pub most : m ≤ g .limit
-  pub room : 42 * count ≤ length out
+  pub room : entry-size * count ≤ length out
 
 -- AFTER GROWING
 pub record Small-grown (g : BookBounds) (code : List ℕ) (m : ℕ) (out : List ℕ) (count : ℕ) (r : Growth) (code-now out-now : List ℕ) : Type 0 where
@@ -85,7 +86,7 @@ pub record Can-walk-small (g : BookBounds) (code : List ℕ) (m n : ℕ) (out : 
   pub few : Few g
   pub held : Small-held g code m n
   pub less : m < g .limit
-  pub room : 42 * count ≤ length out
+  pub room : entry-size * count ≤ length out
 
 -- AFTER WALKING all records that may come next
 pub record Small-walked (g : BookBounds) (code : List ℕ) (m n : ℕ) (out : List ℕ) (count : ℕ) (r : Growth) (code-now out-now : List ℕ) : Type 0 where
@@ -104,7 +105,7 @@ pub record Small-so-far (g : BookBounds) (code : List ℕ) (m n : ℕ) (out : Li
   pub low : k ≤ next-count n
   pub stays : Code-stays m code code-now
   pub size : length out-now ≡ length out
-  pub room : 42 * written ≤ length out-now
+  pub room : entry-size * written ≤ length out-now
   pub told :
       (cs : List (List Rec)) (old : List ℕ) → Lists unsupported cs old out count
       → Lists-more unsupported

@@ -64,7 +64,7 @@ pub fn grow_small(
     requires { ⌜ Can-grow-small bounds (now code) cables devices (now output) count ⌝ }
     ensures { λ r. ⌜ Small-grown bounds (now (code .entry)) cables (now (output .entry)) count r (now (code .exit)) (now (output .exit)) ⌝ }
 {
-    let head = Entry::new(cables, 0);
+    let head = Entry::new(cables, 0, 0);
     if !write_next(code, head, count, output) {
         return Growth::Stopped;
     }

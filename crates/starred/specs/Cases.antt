@@ -14,7 +14,7 @@ use Rattle.codes.specs.Code.{Rec, kinds-before, rows-good, rec-bytes, decoded, 
 use Rattle.codes.specs.SectionCode.{lone-code, section-code-refusal, Least-section}
 use Rattle.codes.specs.Agreement.{agreement}
 use Rattle.codes.specs.LeastSearch.{rows-same, is-least-code}
-use Rattle.growth.specs.Catalogue.{Entry, entry, Catalogue}
+use Rattle.growth.specs.Catalogue.{Figures, figures, Entry, entry, Catalogue}
 use Rattle.growth.specs.Mined.{mined-entries}
 
 pub data Case : Type 0 where
@@ -69,11 +69,14 @@ unfoldable pub is-map : Option (List ℕ) → List ℕ → Bool
 is-map none f = false
 is-map (some g) f = same-numbers g f
 
+unfoldable pub same-figures : (f g : Figures) → Bool
+same-figures f g = eqb (f .support) (g .support) && eqb (f .example) (g .example)
+
 unfoldable pub same-entries : (es gs : List Entry) → Bool
 same-entries [] [] = true
 same-entries [] (g ∷ gs) = false
 same-entries (e ∷ es) [] = false
-same-entries (e ∷ es) (g ∷ gs) = (eqb (e .support) (g .support) && rows-same (e .code) (g .code)) && same-entries es gs
+same-entries (e ∷ es) (g ∷ gs) = (same-figures (e .figures) (g .figures) && rows-same (e .code) (g .code)) && same-entries es gs
 
 unfoldable pub meets : Case → Bool
 meets (coded bs rs) = accepted bs && is-least-section (drawing-in bs) rs
@@ -121,8 +124,8 @@ path-of-3 k = plain-sheet k 3 ((0, 1) ∷ (1, 2) ∷ [])
 abbrev triangle : (crane : ℕ) → List ℕ
 triangle k = plain-sheet k 3 ((0, 1) ∷ (1, 2) ∷ (2, 0) ∷ [])
 
--- the codes of D3's first record, D3, D4 with these supports
-abbrev path-and-triangle : (cable path ring : ℕ) → List Entry
+-- the codes of D3's first record, D3, D4 with these figures
+abbrev path-and-triangle : (cable path ring : Figures) → List Entry
 path-and-triangle a b c =
     entry a (plain-code ((0, 1) ∷ []))
     ∷ entry b (plain-code ((0, 1) ∷ (1, 2) ∷ []))
@@ -130,7 +133,7 @@ path-and-triangle a b c =
     ∷ []
 
 -- those of the first two alone
-abbrev cable-and-path : (cable path : ℕ) → List Entry
+abbrev cable-and-path : (cable path : Figures) → List Entry
 cable-and-path a b = entry a (plain-code ((0, 1) ∷ [])) ∷ entry b (plain-code ((0, 1) ∷ (1, 2) ∷ [])) ∷ []
 
 -- THE TABLE
@@ -166,10 +169,10 @@ table =
     ∷ matched (path-of-3 0) (triangle 0) (0 ∷ 1 ∷ 2 ∷ [])
     ∷ not-contained (triangle 0) (path-of-3 0)
     -- D12 D3 then D4 as cranes 0 and 1, s = 1, L = 4
-    ∷ catalogued (path-of-3 0 ++ triangle 1) 1 4 (path-and-triangle 2 2 1)
+    ∷ catalogued (path-of-3 0 ++ triangle 1) 1 4 (path-and-triangle (figures 2 0) (figures 2 0) (figures 1 1))
     -- what the program prints of them, s = 2: with L = 6 as with L = 4
-    ∷ catalogued (path-of-3 0 ++ triangle 1) 2 4 (cable-and-path 2 2)
-    ∷ catalogued (path-of-3 0 ++ triangle 1) 2 6 (cable-and-path 2 2)
+    ∷ catalogued (path-of-3 0 ++ triangle 1) 2 4 (cable-and-path (figures 2 0) (figures 2 0))
+    ∷ catalogued (path-of-3 0 ++ triangle 1) 2 6 (cable-and-path (figures 2 0) (figures 2 0))
     -- one device, kinds 7 and 8
     ∷ coded (drawing-of (7 ∷ []) []) (lone-code 7)
     ∷ coded (drawing-of (8 ∷ []) []) (lone-code 8)
@@ -185,14 +188,17 @@ table =
     -- kind 1 in D3, and not the other way round
     ∷ matched (drawing-of (1 ∷ []) []) (path-of-3 0) (0 ∷ [])
     ∷ not-contained (path-of-3 0) (drawing-of (1 ∷ []) [])
-    -- among D3 and D4 they add nothing, and alone they have no entry
-    ∷ catalogued (drawing-of (1 ∷ []) [] ++ path-of-3 0 ++ drawing-of (7 ∷ []) [] ++ triangle 1) 1 4 (path-and-triangle 2 2 1)
+    -- among D3 and D4 they add no entry, and are drawings with numbers of their own; alone they have no entry
+    ∷ catalogued (drawing-of (1 ∷ []) [] ++ path-of-3 0 ++ drawing-of (7 ∷ []) [] ++ triangle 1) 1 4
+    (path-and-triangle (figures 2 1) (figures 2 1) (figures 1 3))
     ∷ catalogued (drawing-of (7 ∷ []) [] ++ drawing-of (7 ∷ []) []) 1 4 []
     -- D3 and D4 as two sheets of crane 0 count once: at s = 2 there is no entry
-    ∷ catalogued (path-of-3 0 ++ triangle 0) 1 4 (path-and-triangle 1 1 1)
+    ∷ catalogued (path-of-3 0 ++ triangle 0) 1 4 (path-and-triangle (figures 1 0) (figures 1 0) (figures 1 1))
     ∷ catalogued (path-of-3 0 ++ triangle 0) 2 4 []
     -- sheets of one crane need not stand side by side
-    ∷ catalogued (triangle 0 ++ path-of-3 255 ++ triangle 0) 1 4 (path-and-triangle 2 2 1)
+    ∷ catalogued (triangle 0 ++ path-of-3 255 ++ triangle 0) 1 4 (path-and-triangle (figures 2 0) (figures 2 0) (figures 1 0))
+    -- an example is a drawing's number, not its crane's
+    ∷ catalogued (path-of-3 9 ++ triangle 7) 1 4 (path-and-triangle (figures 2 0) (figures 2 0) (figures 1 1))
     -- codes and maps ignore the crane
     ∷ coded (triangle 255) (plain-code ((0, 1) ∷ (1, 2) ∷ (2, 0) ∷ []))
     ∷ matched (path-of-3 7) (triangle 255) (0 ∷ 1 ∷ 2 ∷ [])

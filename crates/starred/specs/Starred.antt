@@ -73,6 +73,8 @@ use Rattle.graphs.specs.Survey.{
   marked-cranes,
   each-once,
   support,
+  first-true,
+  example,
 }
 use Rattle.graphs.specs.Patterns.{accepted-section}
 use Rattle.graphs.specs.Graph.{Section, Pattern, lone-drawing}
@@ -136,7 +138,7 @@ use Rattle.codes.specs.LeastSearch.{
   is-least,
 }
 use Rattle.codes.specs.LeastSearchLaws.{least-from-test, least-to-test, rows-same-from-test}
-use Rattle.growth.specs.Catalogue.{Entry, Catalogue}
+use Rattle.growth.specs.Catalogue.{Figures, figures, Entry, Catalogue}
 use Rattle.growth.specs.FamilyLists.{entry-eq}
 use Rattle.growth.specs.Mined.{next-records, is-frequent, mined, mined-entries}
 use Rattle.growth.specs.MinedLaws.{catalogue-mined}
@@ -156,6 +158,7 @@ use Rattle.starred.specs.Cases.{
   is-least-section,
   same-numbers,
   is-map,
+  same-figures,
   same-entries,
   meets,
   all-meet,
@@ -177,7 +180,8 @@ unfolding table has-cables is-least-section cables-fit lone-record lone-row lone
     least-map search-from step-fits when try-each or-map fits-so-far same-by inverse-from inverse-at maps-into cables-land kinds-kept
     all-different has-cable accepted byte-list drawing-refusal connected reached spread with-ends member unused-zero all-zero
     cable-refusal joined-by joins drawing-bytes cable-bytes drawing-in cables-in cable-in
-    same-entries mined-entries mined is-frequent next-records sorted placed is-least is-pattern support marked-cranes each-once
+    same-figures same-entries mined-entries mined is-frequent next-records sorted placed is-least is-pattern support marked-cranes each-once
+    first-true example
     containing cranes crane-in
     survey-refusal bytes-refusal length-refusal drawings-refusal refusal survey records-in
 starred = refl
@@ -230,16 +234,22 @@ map-from-test p d f ends e = least-map-found p d f ends (go (least-map p d) e)
     go none h = absurd (false≢true h)
     go (some g) h = ap some (numbers-from-test g f h)
 
+figures-from-test : (f g : Figures) → same-figures f g ≡ true → f ≡ g
+unfolding same-figures
+figures-from-test f g h =
+    let s = and-split (eqb (f .support) (g .support)) (eqb (f .example) (g .example)) h in
+    ap₂ figures (eqb-true (f .support) (g .support) (s .0)) (eqb-true (f .example) (g .example) (s .1))
+
 entries-from-test : (es gs : List Entry) → same-entries es gs ≡ true → es ≡ gs
 unfolding same-entries
 entries-from-test [] [] h = refl
 entries-from-test [] (g ∷ gs) h = absurd (false≢true h)
 entries-from-test (e ∷ es) [] h = absurd (false≢true h)
 entries-from-test (e ∷ es) (g ∷ gs) h =
-    let s = and-split (eqb (e .support) (g .support) && rows-same (e .code) (g .code)) (same-entries es gs) h in
-    let t = and-split (eqb (e .support) (g .support)) (rows-same (e .code) (g .code)) (s .0) in
+    let s = and-split (same-figures (e .figures) (g .figures) && rows-same (e .code) (g .code)) (same-entries es gs) h in
+    let t = and-split (same-figures (e .figures) (g .figures)) (rows-same (e .code) (g .code)) (s .0) in
     ap₂ {C = List Entry} (λ a b. a ∷ b)
-    (entry-eq e g (eqb-true (e .support) (g .support) (t .0)) (rows-same-from-test (e .code) (g .code) (t .1)))
+    (entry-eq e g (figures-from-test (e .figures) (g .figures) (t .0)) (rows-same-from-test (e .code) (g .code) (t .1)))
     (entries-from-test es gs (s .1))
 
 pub meets-holds : (c : Case) → meets c ≡ true → Holds c

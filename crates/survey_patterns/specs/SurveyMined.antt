@@ -7,12 +7,12 @@ use Prim.Native.Nat.{ℕ, _+_, _*_, _≤_}
 use lib.ListN.{length}
 use Rattle.codes.specs.Code.{Rec, kinds-before}
 use Rattle.codes.specs.CodeOrder.{kinds-order}
-use Rattle.growth.specs.Catalogue.{support-of}
+use Rattle.growth.specs.Catalogue.{figures-of}
 use Rattle.growth.specs.Listings.{Lists}
 use Rattle.growth.specs.Growth.{Listed, Listed-by}
 use Rattle.growth.specs.Frequent.{Frequent-in}
 use Rattle.growth.specs.Firsts.{Firsts}
-use Rattle.growth.specs.Sizes.{candidates-size}
+use Rattle.growth.specs.Sizes.{candidates-size, entry-size}
 use Rattle.entries.specs.declared.output.Growth.{Growth}
 use Rattle.entries.specs.declared.output.Growth.the-variants.{To, Stopped}
 use Rattle.growing.specs.declared.grow.Settings.{Settings}
@@ -25,7 +25,7 @@ use Rattle.entries.specs.ListOutcomes.{Outcome}
 -- ALL FREQUENT LEAST CODES are listed, or they cannot stand on the page
 abbrev pub Survey-listed : (survey : List ℕ) (s l : ℕ) (checking : Bool) (out : List ℕ) → Growth → (out-now : List ℕ) → Type 0
 Survey-listed survey s l checking out r z =
-    Outcome checking (support-of survey) (Listed kinds-before kinds-order (Frequent-in kinds-before survey s) l []) [] out z r
+    Outcome checking (figures-of survey) (Listed kinds-before kinds-order (Frequent-in kinds-before survey s) l []) [] out z r
 
 -- WITH ITS TABLES at hand
 pub record Can-mine (survey labels rank alphabet : List ℕ) (g : Settings) : Type 0 where
@@ -41,13 +41,13 @@ pub record Kinds-done (survey : List ℕ) (g : Settings) (out : List ℕ) (k : �
   pub blank : Blank cells seen
   pub list-size : length list ≡ candidates-size
   pub size : length out-now ≡ length out
-  pub room : 42 * written ≤ length out-now
+  pub room : entry-size * written ≤ length out-now
   pub firsts : List Rec
   pub codes : List (List Rec)
   pub first : Firsts (cranes-of survey) (drawings-of survey) (g .threshold) k firsts
   pub listed :
       Listed-by kinds-before kinds-order (Frequent-in kinds-before survey (g .threshold)) (g .limit) [] firsts codes
-  pub lists : Lists (support-of survey) codes out out-now written
+  pub lists : Lists (figures-of survey) codes out out-now written
 
 -- ONE KIND MORE: what it asks
 pub record Can-mine-kind

@@ -11,7 +11,7 @@ use Rattle.codes.specs.Code.{Rec, fresh, rows-refusal, decoded, kinds-before}
 use Rattle.codes.specs.CodeOrder.{kinds-order}
 use Rattle.codes.specs.Greedy.{Greedy}
 use Rattle.codes.specs.ReadRows.{rows-nil}
-use Rattle.growth.specs.Catalogue.{support-of}
+use Rattle.growth.specs.Catalogue.{figures-of}
 use Rattle.growth.specs.Growth.{Listed-by, listed-none}
 use Rattle.growth.specs.Frequent.{Frequent-in}
 use Rattle.growth.specs.PlacedRecords.{alone}
@@ -75,7 +75,7 @@ module _ {survey labels rank alphabet : List ℕ} {g : Settings} (a : Can-mine s
         codes = [];
         first = firsts-none (cranes-of survey) ds (g .threshold);
         listed = listed-none kinds-before kinds-order Wanted (g .limit) [];
-        lists = lists-none (support-of survey) out;
+        lists = lists-none (figures-of survey) out;
       }
 
   -- A KIND THAT DOES NOT OCCUR is passed over

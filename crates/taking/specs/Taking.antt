@@ -2,13 +2,15 @@
 use mathlib.Core.Path.{_≡_}
 use mathlib.Core.Bool.{Bool, true, false}
 use mathlib.Core.List.{List}
-use Prim.Native.Nat.{ℕ, _+_, _*_, _/_, _^_, _≤_, _<_}
+use Prim.Native.Nat.{ℕ, _+_, _*_, _^_, _≤_, _<_}
 use lib.Dec.{eqb}
 use lib.ListN.{length}
 use Rattle.laws.specs.PutRecords.{put-record}
 use Rattle.codes.specs.Code.{Rec, recs-in, decoded, Least}
 use Rattle.codes.specs.OwnNumbering.{Well-grown}
+use Rattle.growth.specs.Sizes.{entry-size}
 use Rattle.growth.specs.Catalogue.{entry, entry-bytes}
+use Rattle.growth.specs.Places.{cell-count, cell-figures}
 use Rattle.growth.specs.Page.{Not-there}
 use Rattle.least_seen.specs.Accepting.{Accepted-front}
 use Rattle.taking.specs.declared.take.Taken.{Taken}
@@ -19,20 +21,20 @@ pub record Can-take-candidate (code : List ℕ) (m n cell : ℕ) (out : List ℕ
   pub front : Accepted-front code m n
   pub well : Well-grown (recs-in m code)
   pub most : m ≤ 8
-  pub few : cell / (2 ^ 32) ≤ 32
-  pub out-room : 42 * count ≤ length out
+  pub few : cell-count cell ≤ 32
+  pub out-room : entry-size * count ≤ length out
 
--- its code is the least, and its entry, with as many cranes as its cell counts, stands behind the others
+-- its code is the least, and its entry, with the figures of its cell, stands behind the others
 pub record Entry-put (γ : List Rec) (cell count : ℕ) (out out-now : List ℕ) : Type 0 where
   pub least : Least (decoded γ) γ
-  pub room : 42 * count + 42 ≤ length out
+  pub room : entry-size * count + entry-size ≤ length out
   pub low : count + 1 < 2 ^ 64
-  pub is : out-now ≡ put-record 42 count (entry-bytes (entry (cell / (2 ^ 32)) γ)) out
+  pub is : out-now ≡ put-record entry-size count (entry-bytes (entry (cell-figures cell) γ)) out
 
 -- or it cannot
 pub record No-entry (checking : Bool) (γ : List Rec) (cell count : ℕ) (out out-now : List ℕ) : Type 0 where
   pub least : Least (decoded γ) γ
-  pub back : Not-there checking (entry-bytes (entry (cell / (2 ^ 32)) γ)) count out
+  pub back : Not-there checking (entry-bytes (entry (cell-figures cell) γ)) count out
   pub same : out-now ≡ out
 
 pub record Not-least (γ : List Rec) (out out-now : List ℕ) : Type 0 where

@@ -2,11 +2,12 @@
 use mathlib.Core.Path.{_≡_, refl, sym, ap, _∙_, subst}
 use mathlib.Core.Bool.{Bool, true, false, true≢false}
 use mathlib.Core.List.{List}
-use Prim.Native.Nat.{ℕ, _/_, _^_}
+use Prim.Native.Nat.{ℕ}
 use borrow.Author.Tests.{eqb-false}
 use lib.ListN.{length}
 use Rattle.codes.specs.Code.{Rec, decoded, Least}
 use Rattle.growth.specs.Catalogue.{entry, entry-bytes}
+use Rattle.growth.specs.Places.{cell-figures}
 use Rattle.growth.specs.Page.{Entry-handed}
 use Rattle.taking.specs.declared.take.Taken.{Taken}
 use Rattle.taking.specs.declared.take.Taken.the-variants.{Passed, Stopped, Listed}
@@ -50,14 +51,14 @@ taken-goes-on {checking} {γ} {cell} {limit} {count} {out} {over} {stopped} {mor
 -- ITS ENTRY IS HANDED OVER
 pub entry-listed :
     (checking : Bool) {γ : List Rec} {cell count : ℕ} {out z : List ℕ} (r : Bool) → Least (decoded γ) γ → r ≡ true
-    → Entry-handed checking (entry-bytes (entry (cell / (2 ^ 32)) γ)) count out r z → Entry-put γ cell count out z
+    → Entry-handed checking (entry-bytes (entry (cell-figures cell) γ)) count out r z → Entry-put γ cell count out z
 entry-listed checking {γ} {cell} {count} {out} {z} r l e h =
-    let t = subst (λ (b : Bool). Entry-handed checking (entry-bytes (entry (cell / (2 ^ 32)) γ)) count out b z) e h in
+    let t = subst (λ (b : Bool). Entry-handed checking (entry-bytes (entry (cell-figures cell) γ)) count out b z) e h in
     record { least = l; room = t .0; low = t .2; is = t .1 }
 
 pub entry-stopped :
     (checking : Bool) {γ : List Rec} {cell count : ℕ} {out z : List ℕ} (r : Bool) → Least (decoded γ) γ → r ≡ false
-    → Entry-handed checking (entry-bytes (entry (cell / (2 ^ 32)) γ)) count out r z → No-entry checking γ cell count out z
+    → Entry-handed checking (entry-bytes (entry (cell-figures cell) γ)) count out r z → No-entry checking γ cell count out z
 entry-stopped checking {γ} {cell} {count} {out} {z} r l e h =
-    let t = subst (λ (b : Bool). Entry-handed checking (entry-bytes (entry (cell / (2 ^ 32)) γ)) count out b z) e h in
+    let t = subst (λ (b : Bool). Entry-handed checking (entry-bytes (entry (cell-figures cell) γ)) count out b z) e h in
     record { least = l; back = t .0; same = t .1 }

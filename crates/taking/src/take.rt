@@ -23,6 +23,7 @@ pub struct TakenOn {
 }
 
 // Writes the entry of a candidate, of so many cables and devices, whose code is the least; or holds it against the list that is given.
+// Its example is the lowest drawing of the cell's set.
 fn take_up(
     code: &[u8; Code::BYTES],
     cables: usize,
@@ -41,7 +42,8 @@ fn take_up(
         return Taken::Passed;
     }
     let support = (cell / ONE_MORE) as usize;
-    let head = Entry::new(cables, support);
+    let example = u32::trailing_zeros((cell % ONE_MORE) as u32) as usize;
+    let head = Entry::new(cables, support, example);
     if !next_entry(code, head, count, checking, given, output) {
         return Taken::Stopped;
     }

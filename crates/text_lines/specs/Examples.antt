@@ -4,7 +4,7 @@ use mathlib.Core.List.{List, [], _∷_, _++_}
 use Prim.Native.Nat.{ℕ}
 use Rattle.laws.specs.Lists.{concat}
 use Rattle.codes.specs.Code.{Rec}
-use Rattle.growth.specs.Catalogue.{entry}
+use Rattle.growth.specs.Catalogue.{figures, entry}
 use Rattle.text_lines.specs.Texts.{digits, decimal, record-text, entry-text, catalogue-text, refusal-text}
 
 -- the two records of D3, a path of three devices of kind 1 joined by cables of kind 5
@@ -14,20 +14,25 @@ first = record { i = 0; j = 1; ki = 1; c = 5; kj = 1 }
 abbrev second : Rec
 second = record { i = 1; j = 2; ki = 1; c = 5; kj = 1 }
 
--- 2 0-1:1.5.1
+-- 2 @0 0-1:1.5.1
 abbrev first-line : List ℕ
-first-line = 50 ∷ 32 ∷ 48 ∷ 45 ∷ 49 ∷ 58 ∷ 49 ∷ 46 ∷ 53 ∷ 46 ∷ 49 ∷ 10 ∷ []
+first-line = 50 ∷ 32 ∷ 64 ∷ 48 ∷ 32 ∷ 48 ∷ 45 ∷ 49 ∷ 58 ∷ 49 ∷ 46 ∷ 53 ∷ 46 ∷ 49 ∷ 10 ∷ []
 
--- 2 0-1:1.5.1 1-2:1.5.1
+-- 2 @0 0-1:1.5.1 1-2:1.5.1
 abbrev second-line : List ℕ
 second-line =
-    50 ∷ 32 ∷ 48 ∷ 45 ∷ 49 ∷ 58 ∷ 49 ∷ 46 ∷ 53 ∷ 46 ∷ 49 ∷ 32 ∷ 49 ∷ 45 ∷ 50 ∷ 58 ∷ 49 ∷ 46 ∷ 53 ∷ 46 ∷ 49 ∷ 10 ∷ []
+    50 ∷ 32 ∷ 64 ∷ 48
+    ∷ 32 ∷ 48 ∷ 45 ∷ 49 ∷ 58 ∷ 49 ∷ 46 ∷ 53 ∷ 46 ∷ 49
+    ∷ 32 ∷ 49 ∷ 45 ∷ 50 ∷ 58 ∷ 49 ∷ 46 ∷ 53 ∷ 46 ∷ 49
+    ∷ 10 ∷ []
 
 -- 2 patterns
 abbrev last-line : List ℕ
 last-line = 50 ∷ 32 ∷ 112 ∷ 97 ∷ 116 ∷ 116 ∷ 101 ∷ 114 ∷ 110 ∷ 115 ∷ 10 ∷ []
 
-pub paper-catalogue : catalogue-text (entry 2 (first ∷ []) ∷ entry 2 (first ∷ second ∷ []) ∷ []) ≡ first-line ++ second-line ++ last-line
+-- both cranes' drawings contain both patterns; the first of them is drawing 0
+pub paper-catalogue :
+    catalogue-text (entry (figures 2 0) (first ∷ []) ∷ entry (figures 2 0) (first ∷ second ∷ []) ∷ []) ≡ first-line ++ second-line ++ last-line
 unfolding catalogue-text entry-text record-text decimal digits concat
 paper-catalogue = refl
 

@@ -5,15 +5,15 @@ use mathlib.Core.List.{List, [], _∷_, _++_, map, append-assoc, append-nil}
 use Prim.Native.Nat.{ℕ, zero, suc, _+_, _*_, _-_, _/_, _≤_, _<_, min}
 use native.Mathlib.Numerals.{add-one}
 use native.Mathlib.Omega.{arith}
-use lib.ListN.{length, getD, take, drop, replicate, length-append, length-map}
+use lib.ListN.{length, getD, take, drop, length-append, length-map}
 use lib.Seq.{drop-drop}
 use borrow.Author.Tests.{le-leb, lt-leb}
 use Rattle.laws.specs.Lists.{Mem, concat}
 use Rattle.laws.specs.Rows.{row, rows, row-zero, row-tail, rows-concat, concat-length, rows-length}
 use Rattle.codes.specs.Code.{rec-in, recs-in}
-use Rattle.codes.specs.CodeBytes.{recs-in-bytes}
-use Rattle.growth.specs.Catalogue.{Entry, entry, entry-bytes, all-bytes}
-use Rattle.growth.specs.EntryLaws.{entries-sized}
+use Rattle.growth.specs.Sizes.{entry-size}
+use Rattle.growth.specs.Catalogue.{figures, Entry, entry, entry-bytes, all-bytes}
+use Rattle.growth.specs.EntryLaws.{entry-cables, entry-figures, entry-records, entries-sized}
 use Rattle.text_lines.specs.Texts.{
   decimal,
   drawing-word,
@@ -50,13 +50,13 @@ unfolding recs-in
 records-more k bs = rw add-one (rows-text-more 5 rec-in (λ r. 32 ∷ record-text r) k bs)
 
 pub lines-more :
-    (k : ℕ) (bs : List ℕ) → lines (first-entries k bs) ++ entry-text (entry-shown (row 42 k bs))
+    (k : ℕ) (bs : List ℕ) → lines (first-entries k bs) ++ entry-text (entry-shown (row entry-size k bs))
     ≡ lines (first-entries (k + 1) bs)
-lines-more k bs = rw add-one (rows-text-more 42 entry-shown entry-text k bs)
+lines-more k bs = rw add-one (rows-text-more entry-size entry-shown entry-text k bs)
 
 -- HOW MANY
 pub entries-count : (n : ℕ) (bs : List ℕ) → length (first-entries n bs) ≡ n
-entries-count n bs = length-map (rows 42 n bs) entry-shown ∙ rows-length 42 n bs
+entries-count n bs = length-map (rows entry-size n bs) entry-shown ∙ rows-length entry-size n bs
 
 -- THE DRAWING AT FAULT: for refusals 2 to 8
 module _ (n d : ℕ) where
@@ -69,8 +69,10 @@ module _ (n d : ℕ) where
   pub drawing-told : 2 ≤ n → n ≤ 8 → drawing-word ++ decimal d ≡ drawing-text n d
   drawing-told h g = rw (le-leb 2 n h, le-leb n 8 g)
 
--- AN ENTRY OF AT MOST 8 CABLES is shown as it stands in its bytes: support, then as many records as its number of cables counts
-pub shown-whole : (bs : List ℕ) → getD bs 0 0 ≤ 8 → entry-shown bs ≡ entry (getD bs 1 0) (recs-in (getD bs 0 0) (drop 2 bs))
+-- AN ENTRY OF AT MOST 8 CABLES is shown as it stands in its bytes: support, example, and as many records as its number of cables counts
+pub shown-whole :
+    (bs : List ℕ) → getD bs 0 0 ≤ 8
+    → entry-shown bs ≡ entry (figures (getD bs 1 0) (getD bs 42 0)) (recs-in (getD bs 0 0) (drop 2 bs))
 unfolding entry-shown
 shown-whole bs h =
     let few : min (getD bs 0 0) 8 ≡ getD bs 0 0 = omega arith in
@@ -78,9 +80,9 @@ shown-whole bs h =
 
 -- ENTRIES READ BACK from their bytes
 entry-back : (e : Entry) → length (e .code) ≤ 8 → entry-shown (entry-bytes e) ≡ e
-unfolding entry-bytes
 entry-back e h =
-    shown-whole (entry-bytes e) h ∙ ap (entry (e .support)) (recs-in-bytes (e .code) (replicate (40 - 5 * length (e .code)) 0))
+    shown-whole (entry-bytes e) (rw (entry-cables e) h)
+    ∙ ap₂ {C = Entry} (λ f rs. entry f rs) (entry-figures e h) (entry-records e)
 
 map-back : (es : List Entry) → ((e : Entry) → Mem e es → length (e .code) ≤ 8) → map entry-shown (map entry-bytes es) ≡ es
 map-back [] h = refl
@@ -91,18 +93,18 @@ pub entries-back :
     → entries-shown (length es) (all-bytes es ++ rest) ≡ es
 unfolding all-bytes
 entries-back es rest h =
-    ap (λ (n : ℕ). map entry-shown (rows 42 n bytes)) count
-    ∙ ap (map entry-shown) (rows-concat 42 (map entry-bytes es) rest (entries-sized es h))
+    ap (λ (n : ℕ). map entry-shown (rows entry-size n bytes)) count
+    ∙ ap (map entry-shown) (rows-concat entry-size (map entry-bytes es) rest (entries-sized es h))
     ∙ map-back es h
   where
     bytes : List ℕ
     bytes = concat (map entry-bytes es) ++ rest
 
-    count : min (length es) (length bytes / 42) ≡ length (map entry-bytes es)
+    count : min (length es) (length bytes / entry-size) ≡ length (map entry-bytes es)
     count =
         omega (
           arith,
           length-append (concat (map entry-bytes es)) rest,
-          concat-length 42 (map entry-bytes es) (entries-sized es h),
+          concat-length entry-size (map entry-bytes es) (entries-sized es h),
           length-map es entry-bytes,
         )

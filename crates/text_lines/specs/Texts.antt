@@ -8,7 +8,8 @@ use lib.ListN.{length, getD, drop}
 use Rattle.laws.specs.Lists.{concat}
 use Rattle.laws.specs.Rows.{rows}
 use Rattle.codes.specs.Code.{Rec, recs-in}
-use Rattle.growth.specs.Catalogue.{Entry, entry}
+use Rattle.growth.specs.Sizes.{entry-size}
+use Rattle.growth.specs.Catalogue.{figures, Entry, entry}
 use Rattle.records.specs.Refusals.{number-of}
 use Rattle.records.specs.Catalogued.{catalogued-count}
 use Rattle.records.specs.declared.catalogued.Catalogued.{Catalogued}
@@ -42,15 +43,20 @@ drawing-word = 32 ∷ 100 ∷ 114 ∷ 97 ∷ 119 ∷ 105 ∷ 110 ∷ 103 ∷ 32 
 unfoldable pub record-text : Rec → List ℕ
 record-text r = decimal (r .i) ++ (45 ∷ decimal (r .j)) ++ (58 ∷ decimal (r .ki)) ++ (46 ∷ decimal (r .c)) ++ (46 ∷ decimal (r .kj))
 
--- a line per entry: support, then after a blank each record
+-- a line per entry: support, the example behind a blank and @, then after a blank each record
 abbrev pub records-text : List Rec → List ℕ
 records-text rs = concat (map (λ r. 32 ∷ record-text r) rs)
 
 unfoldable pub entry-text : Entry → List ℕ
-entry-text e = decimal (e .support) ++ records-text (e .code) ++ line-end
+entry-text e =
+    decimal (e .figures .support) ++ (32 ∷ 64 ∷ decimal (e .figures .example)) ++ records-text (e .code) ++ line-end
 
 abbrev pub lines : List Entry → List ℕ
 lines es = concat (map entry-text es)
+
+-- where all numbers are bytes no line is longer: 3 digits, blank and @, 3 digits, 8 records of 20 bytes with their blanks, the line's end
+abbrev pub longest-line : ℕ
+longest-line = 169
 
 -- last line: number of entries and the word patterns
 unfoldable pub catalogue-text : List Entry → List ℕ
@@ -68,17 +74,17 @@ abbrev pub answer-text : Catalogued → (entries : List Entry) → List ℕ
 answer-text (Entries n) es = catalogue-text es
 answer-text (Refused r d) es = refusal-text (number-of r) d
 
--- ENTRIES SHOWN: what is printed of the 42 bytes of an entry. They have no more than 8 records, so a count of cables above 8
+-- ENTRIES SHOWN: what is printed of the bytes of an entry. They have no more than 8 records, so a count of cables above 8
 -- stands for 8: any bytes have a text. An entry of at most 8 cables is shown as it stands there (`shown-whole`)
 unfoldable pub entry-shown : List ℕ → Entry
-entry-shown bs = entry (getD bs 1 0) (recs-in (min (getD bs 0 0) 8) (drop 2 bs))
+entry-shown bs = entry (figures (getD bs 1 0) (getD bs 42 0)) (recs-in (min (getD bs 0 0) 8) (drop 2 bs))
 
 abbrev pub first-entries : (n : ℕ) → List ℕ → List Entry
-first-entries n bs = map entry-shown (rows 42 n bs)
+first-entries n bs = map entry-shown (rows entry-size n bs)
 
 -- n entries, or as many as the bytes have room for
 abbrev pub entries-shown : (n : ℕ) → List ℕ → List Entry
-entries-shown n bs = first-entries (min n (length bs / 42)) bs
+entries-shown n bs = first-entries (min n (length bs / entry-size)) bs
 
 -- the text of an answer whose entries stand in these bytes
 abbrev pub text-of : Catalogued → (bytes : List ℕ) → List ℕ

@@ -3,7 +3,7 @@ use crate::answer::Answer;
 use crate::bytes::byte;
 
 // As many bytes as a catalogue's entry has.
-const LINE_BYTES: usize = 42;
+const LINE_BYTES: usize = 43;
 
 fn print_number(value: u64) {
     io::write_all(1, b" ");

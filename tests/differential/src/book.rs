@@ -32,7 +32,7 @@ pub fn text(a: u32, b: u32, limit: u32) -> String {
     }
 }
 
-/// The entries for any numbers: codes rise, and no drawing is counted.
+/// The entries for any numbers: codes rise, no drawing is counted, and none is an example.
 pub fn entries(a: u8, b: u8, limit: usize) -> Vec<Entry> {
     let patterns = patterns(a, b, limit);
     let mut entries: Vec<Entry> = patterns
@@ -40,6 +40,7 @@ pub fn entries(a: u8, b: u8, limit: usize) -> Vec<Entry> {
         .map(|pattern| Entry {
             code: code::least(pattern),
             support: 0,
+            example: 0,
         })
         .collect();
     entries.sort_by(|one, other| code::order(&one.code, &other.code));

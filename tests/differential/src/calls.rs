@@ -8,6 +8,7 @@ use holvreiz_differential::book;
 use holvreiz_differential::catalogue::{self, each_its_crane, Codes, Entry, ENTRY, FORMER, USUAL};
 use holvreiz_differential::cranes;
 use holvreiz_differential::drawing::Drawing;
+use holvreiz_differential::examples;
 use holvreiz_differential::lists;
 use holvreiz_differential::lone;
 use holvreiz_differential::random::Random;
@@ -58,13 +59,14 @@ fn outcome(given: &Given, answer: &Answer) -> String {
 /// How often each call had each outcome.
 pub type Seen = BTreeMap<(&'static str, String), usize>;
 
-/// What was seen, of each call by itself and of the cranes, the list or the agreement beside it, and of what was written at two limits; and where the
-/// lent bytes come from.
+/// What was seen, of each call by itself and of the cranes, the list, the agreement or the examples beside it, and of what was written at two limits;
+/// and where the lent bytes come from.
 pub struct Calls {
     seen: Seen,
     beside_cranes: Seen,
     beside_lists: Seen,
     beside_agreements: Seen,
+    beside_examples: Seen,
     limits: Seen,
     found: BTreeSet<usize>,
     written_checked: usize,
@@ -97,6 +99,7 @@ impl Calls {
             beside_cranes: BTreeMap::new(),
             beside_lists: BTreeMap::new(),
             beside_agreements: BTreeMap::new(),
+            beside_examples: BTreeMap::new(),
             limits: BTreeMap::new(),
             found: BTreeSet::new(),
             written_checked: 0,
@@ -119,6 +122,10 @@ impl Calls {
 
     pub fn seen_beside_agreements(&self) -> &Seen {
         &self.beside_agreements
+    }
+
+    pub fn seen_beside_examples(&self) -> &Seen {
+        &self.beside_examples
     }
 
     /// How often what the library had written at a limit was held against what it had written at a greater one.
@@ -177,6 +184,10 @@ impl Calls {
         for told in agreement::told(&given, &expected) {
             let outcome = said(&expected) + told;
             *self.beside_agreements.entry((call, outcome)).or_default() += 1;
+        }
+        if let Some(told) = examples::told_of_lent(call, lent, &expected) {
+            let outcome = said(&expected) + told;
+            *self.beside_examples.entry((call, outcome)).or_default() += 1;
         }
         expected
     }
@@ -311,11 +322,28 @@ impl Calls {
             settings: &settings,
         };
         let [threshold, limit] = settings;
-        self.hold(given, room, expect, |output| {
+        let answer = self.hold(given, room, expect, |output| {
             raw::catalogue(survey, threshold, limit, output)
         });
         if let Ok(frequent) = entries {
+            self.note_examples(survey, limit, frequent, &answer);
             self.hold_written(survey, settings, frequent.len());
+        }
+    }
+
+    /// What there is to tell of the examples that were answered.
+    fn note_examples(&mut self, survey: &[u8], limit: u32, entries: &[Entry], answer: &Answer) {
+        if answer.refused.number != 0 {
+            return;
+        }
+        let sheets = catalogue::read_survey(survey).expect("accepted");
+        let containing = self.codes.containing(&sheets, limit as usize);
+        for told in examples::told(&sheets, entries, &containing) {
+            let outcome = said(answer) + told;
+            *self
+                .beside_examples
+                .entry(("catalogue", outcome))
+                .or_default() += 1;
         }
     }
 

@@ -7,6 +7,7 @@ pub mod catalogue;
 pub mod code;
 pub mod cranes;
 pub mod drawing;
+pub mod examples;
 pub mod generate;
 pub mod lists;
 pub mod lone;
@@ -14,6 +15,7 @@ pub mod map;
 pub mod pairs;
 pub mod random;
 pub mod refused;
+pub mod rules;
 pub mod shims;
 #[cfg(test)]
 mod tests;

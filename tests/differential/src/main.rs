@@ -12,11 +12,13 @@ use holvreiz_differential::catalogue::{each_its_crane, ENTRY, FORMER, USUAL};
 use holvreiz_differential::code;
 use holvreiz_differential::cranes;
 use holvreiz_differential::drawing::{self, Drawing, RECORD};
+use holvreiz_differential::examples;
 use holvreiz_differential::generate::{self, sheet, Shape};
 use holvreiz_differential::lists::{self, CHECKS};
 use holvreiz_differential::lone;
 use holvreiz_differential::pairs;
 use holvreiz_differential::random::Random;
+use holvreiz_differential::rules;
 use holvreiz_differential::shims::SHIMS;
 use std::collections::HashSet;
 use std::process::ExitCode;
@@ -430,6 +432,15 @@ mod surveys {
         sheets.flat_map(|(d, &crane)| d.sheet(crane)).collect()
     }
 
+    /// Examples of every kind, at thresholds that all reach and that not all do.
+    pub fn examples(calls: &mut Calls, random: &mut Random) {
+        for survey in examples::surveys(random) {
+            for threshold in [1, 2] {
+                calls.catalogue(&survey, threshold, 8, |needed| needed + 1);
+            }
+        }
+    }
+
     /// Surveys from before drawings had cranes. As they stand each is refused; converted, drawing d as crane d, they have the catalogues that they
     /// had, of drawings counted one by one.
     pub fn old(calls: &mut Calls, random: &mut Random, times: usize) {
@@ -570,6 +581,37 @@ mod checks {
             for [threshold, limit] in [USUAL, FORMER] {
                 calls.check_lists(survey, [threshold, limit], |_| lists.clone());
                 calls.catalogue(survey, threshold, limit, |needed| needed);
+            }
+        }
+    }
+
+    /// Lists that are right but for their examples, which are by other rules.
+    pub fn of_other_examples(calls: &mut Calls, random: &mut Random, times: usize) {
+        let mut all = examples::surveys(random);
+        for shape in [SMALL, PLAIN].repeat(times) {
+            let drawings = random.between(2, 8);
+            let survey = surveys::survey(random, drawings, shape);
+            all.push(generate::survey(random, &survey));
+        }
+        for survey in &all {
+            for settings in [[1, 3], USUAL, FORMER] {
+                let lists = rules::with_wrong_examples(survey, settings);
+                calls.check_lists(survey, settings, |_| lists);
+            }
+        }
+    }
+
+    /// Lists from before entries had an example, of 43 patterns too, where their length is one of whole entries; the drawings in both orders.
+    pub fn without_examples(calls: &mut Calls) {
+        let survey = lists::of_43_patterns();
+        let turned: Vec<u8> = survey.chunks(RECORD).rev().flatten().copied().collect();
+        for survey in [survey, turned] {
+            for part in (RECORD..=survey.len()).step_by(RECORD) {
+                for settings in [[1, 8], USUAL, FORMER] {
+                    calls.check_lists(&survey[..part], settings, |right| {
+                        vec![right.to_vec(), rules::old_form(right)]
+                    });
+                }
             }
         }
     }
@@ -830,6 +872,8 @@ fn list_outcomes() -> Vec<(&'static str, String)> {
         }
         let refused = |near: &&str| (call, refused(18, FIRST) + near);
         outcomes.extend(lists::REFUSED.iter().map(refused));
+        // Of 43 entries, whose length without examples is that of 42.
+        outcomes.push((call, format!("no{}", lists::OLD_FORM)));
     }
     for &(call, said, told) in lists::NAMED_ANSWERS {
         outcomes.extend(told.iter().map(|near| (call, format!("{said}{near}"))));
@@ -847,6 +891,15 @@ fn agreement_outcomes() -> Vec<(&'static str, String)> {
     outcomes
 }
 
+/// What is answered beside examples of every kind. A book has example 0 alone.
+fn example_outcomes() -> Vec<(&'static str, String)> {
+    let answered = |call, kind| (call, format!("entries{kind}"));
+    let of_catalogues = examples::kinds().map(|kind| answered("catalogue", kind));
+    of_catalogues
+        .chain([answered("book", examples::OVER)])
+        .collect()
+}
+
 /// What the library wrote at each limit, held against what it wrote at each greater one, whatever the threshold; and the former against the usual.
 fn limit_outcomes() -> Vec<(&'static str, String)> {
     let lesser = |greater: u32| (1..greater).map(move |lesser| ([1, lesser], [1, greater]));
@@ -860,13 +913,13 @@ fn limit_outcomes() -> Vec<(&'static str, String)> {
 /// Prints how often each outcome was seen, and gives the number of all.
 fn print_seen(seen: &Seen) -> usize {
     for ((call, outcome), times) in seen {
-        println!("{call:11} {outcome:46} {times:7}");
+        println!("{call:11} {outcome:58} {times:7}");
     }
     seen.values().sum()
 }
 
-/// Prints how often each outcome occurred, and each beside cranes, a list or an agreement of which there is something to tell, and at two limits; the
-/// ones that did not occur often enough.
+/// Prints how often each outcome occurred, and each beside cranes, a list, an agreement or examples of which there is something to tell, and at two
+/// limits; the ones that did not occur often enough.
 fn report(calls: &Calls) -> Vec<(&'static str, String)> {
     let total = print_seen(calls.seen());
     println!("of these beside cranes:");
@@ -875,6 +928,8 @@ fn report(calls: &Calls) -> Vec<(&'static str, String)> {
     print_seen(calls.seen_beside_lists());
     println!("of these beside agreements:");
     print_seen(calls.seen_beside_agreements());
+    println!("of these beside examples:");
+    print_seen(calls.seen_beside_examples());
     println!("what the library wrote at a limit, of what it wrote at a greater one:");
     let limits = print_seen(calls.seen_limits());
     println!("{total} calls, each as expected");
@@ -887,6 +942,7 @@ fn report(calls: &Calls) -> Vec<(&'static str, String)> {
         (calls.seen_beside_cranes(), crane_outcomes()),
         (calls.seen_beside_lists(), list_outcomes()),
         (calls.seen_beside_agreements(), agreement_outcomes()),
+        (calls.seen_beside_examples(), example_outcomes()),
         (calls.seen_limits(), limit_outcomes()),
     ] {
         let rare = |outcome: &_| seen.get(outcome).copied().unwrap_or(0) < TIMES;
@@ -920,6 +976,7 @@ fn run(calls: &mut Calls, seed: u64) {
     surveys::largest(calls, random);
     surveys::label_counts(calls, random);
     surveys::repeated_cranes(calls, random);
+    surveys::examples(calls, random);
     surveys::old(calls, random, 100);
     checks::accepted(calls, random, 100, SMALL, 8);
     checks::accepted(calls, random, 40, PLAIN, 8);
@@ -927,6 +984,7 @@ fn run(calls: &mut Calls, seed: u64) {
     checks::repeated_cranes(calls, random);
     checks::of_others(calls, random, 40);
     checks::of_named_settings(calls, random, 20);
+    checks::of_other_examples(calls, random, 20);
     checks::damaged(calls, random, 1500);
     checks::largest(calls, random);
     let drawings = with_cables(random);
@@ -946,6 +1004,7 @@ fn main() -> ExitCode {
     for record in pairs::every_two_pairs() {
         calls.code(&record, 0);
     }
+    checks::without_examples(&mut calls);
     books::accepted(&mut calls);
     books::refused(&mut calls);
     every_small_code(&mut calls);

@@ -3,11 +3,15 @@
 use crate::agreement::{self, TIMES};
 use crate::answers;
 use crate::book;
-use crate::catalogue::{self, Codes, Entry, FORMER, USUAL};
+use crate::catalogue::{
+    self, Codes, ENTRY, EXAMPLE_AT, FORMER, OLD_ENTRY, RECORDS_AT, SUPPORT_AT, USUAL,
+};
 use crate::code::{self, Code, Record};
 use crate::cranes::{self, OLD_RECORD};
-use crate::drawing::{CRANE_AT, RECORD};
+use crate::drawing::{Drawing, CRANE_AT, RECORD};
 use crate::lists::few_cables;
+use crate::map;
+use crate::rules::{self, Rule, Rules, RIGHT};
 
 /// A call with what it was given. Of two drawings or codes `first` is the first, of a survey and a list the survey; `settings` are the threshold and
 /// the size limit of a catalogue, the kinds of devices, the kinds of cables and the size limit of a book. "limits" is a catalogue that is held
@@ -47,9 +51,9 @@ impl Came<'_> {
         *self.returned = *self.returned & !(0xff << 32) | u64::from(number) << 32;
     }
 
-    /// The 42 bytes of each entry.
+    /// The bytes of each entry.
     fn entries(&self) -> Vec<Vec<u8>> {
-        let entries = self.output.chunks(42).take(self.count());
+        let entries = self.output.chunks(ENTRY).take(self.count());
         entries.map(<[u8]>::to_vec).collect()
     }
 
@@ -72,18 +76,63 @@ impl Came<'_> {
     /// Answers with the book of other settings.
     fn list_book(&mut self, a: u32, b: u32, limit: u32) {
         let bytes = catalogue::bytes(&book::entries(a as u8, b as u8, limit as usize));
-        let entries: Vec<Vec<u8>> = bytes.chunks(42).map(<[u8]>::to_vec).collect();
+        self.list_bytes(&bytes);
+    }
+
+    fn list_bytes(&mut self, bytes: &[u8]) {
+        let entries: Vec<Vec<u8>> = bytes.chunks(ENTRY).map(<[u8]>::to_vec).collect();
         self.list(&entries);
     }
 
-    /// Answers with the catalogue that other counts give: what is held against the threshold, and what is written as the support.
-    fn list_counted(&mut self, given: &Given, held: Count, written: Count) {
-        let (true, &[threshold, limit]) = (self.answered(), given.settings) else {
-            return;
-        };
-        let bytes = counted(given.first, threshold, limit, held, written);
-        let entries: Vec<Vec<u8>> = bytes.chunks(42).map(<[u8]>::to_vec).collect();
-        self.list(&entries);
+    /// Answers with the catalogue that other rules give.
+    fn list_by(&mut self, given: &Given, rules: Rules) {
+        if let (true, &[threshold, limit]) = (self.answered(), given.settings) {
+            self.list_bytes(&rules.list(given.first, [threshold, limit]));
+        }
+    }
+
+    /// Answers with other counts: what is held against the threshold, and what is written as the support.
+    fn list_counted(&mut self, given: &Given, held: Rule, support: Rule) {
+        self.list_by(
+            given,
+            Rules {
+                held,
+                support,
+                ..RIGHT
+            },
+        );
+    }
+
+    /// Answers with other examples.
+    fn list_examples(&mut self, given: &Given, example: Rule) {
+        self.list_by(given, Rules { example, ..RIGHT });
+    }
+
+    /// Changes each entry of an answer.
+    fn change_entries(&mut self, change: impl Fn(&mut [u8])) {
+        if self.answered() {
+            let count = self.count();
+            self.output.chunks_mut(ENTRY).take(count).for_each(change);
+        }
+    }
+
+    /// Leaves the example of each entry as it was.
+    fn leave_examples(&mut self) {
+        if self.answered() {
+            for k in 0..self.count() {
+                let at = ENTRY * k + EXAMPLE_AT;
+                self.output[at] = self.lent[at];
+            }
+        }
+    }
+
+    /// Answers with entries as they were before they had an example; the lent bytes behind them are kept.
+    fn list_old(&mut self) {
+        if self.answered() {
+            let bytes = rules::old_form(&self.output[..ENTRY * self.count()]);
+            self.output.copy_from_slice(self.lent);
+            self.output[..bytes.len()].copy_from_slice(&bytes);
+        }
     }
 
     /// Answers whether a list is right.
@@ -121,17 +170,28 @@ impl Came<'_> {
         }
     }
 
-    /// Answers whether a list is the catalogue that other counts give.
-    fn say_counted(&mut self, given: &Given, held: Count, written: Count) {
+    /// Answers whether a list is the catalogue that other rules give.
+    fn say_by(&mut self, given: &Given, rules: Rules) {
         if let (true, &[threshold, limit]) = (self.answered(), given.settings) {
-            let list = counted(given.first, threshold, limit, held, written);
-            self.say(given.second == list);
+            self.say(given.second == rules.list(given.first, [threshold, limit]));
         }
+    }
+
+    /// Answers by other counts.
+    fn say_counted(&mut self, given: &Given, held: Rule, support: Rule) {
+        self.say_by(
+            given,
+            Rules {
+                held,
+                support,
+                ..RIGHT
+            },
+        );
     }
 
     /// Refuses the length of a list where something else is refused by one of these numbers.
     fn refuse_length_first(&mut self, given: &Given, numbers: &[u8]) {
-        if numbers.contains(&self.refusal()) && given.second.len() % 42 != 0 {
+        if numbers.contains(&self.refusal()) && given.second.len() % ENTRY != 0 {
             self.refuse(18, 0);
         }
     }
@@ -185,16 +245,18 @@ impl Came<'_> {
         }
     }
 
-    /// The support of each entry whose 42 bytes are such, but of the first `many` alone.
-    fn spoil_supports(&mut self, wanted: impl Fn(&[u8]) -> bool) {
-        if self.answered() {
-            let count = self.count();
-            for entry in self.output.chunks_mut(42).take(count) {
-                if wanted(entry) {
-                    entry[1] ^= 1;
-                }
+    /// The byte at a place of each entry that is such.
+    fn spoil_entries(&mut self, at: usize, wanted: impl Fn(&[u8]) -> bool) {
+        self.change_entries(|entry| {
+            if wanted(entry) {
+                entry[at] ^= 1;
             }
-        }
+        });
+    }
+
+    /// The support of each entry that is such.
+    fn spoil_supports(&mut self, wanted: impl Fn(&[u8]) -> bool) {
+        self.spoil_entries(SUPPORT_AT, wanted);
     }
 }
 
@@ -293,102 +355,37 @@ fn counted_though_refused(given: &Given, came: &mut Came) {
     }
 }
 
-/// The bytes of the catalogue that other counts give an accepted survey.
-fn counted(survey: &[u8], threshold: u32, limit: u32, held: Count, written: Count) -> Vec<u8> {
-    let sheets = catalogue::read_survey(survey).expect("an accepted survey");
-    let cranes = cranes::of_drawings(survey);
-    let containing = Codes::default().containing(&sheets, limit as usize);
-    let mut entries: Vec<Entry> = containing
-        .into_iter()
-        .filter(|(_, drawings)| held(drawings, &cranes) >= threshold as usize)
-        .map(|(code, drawings)| Entry {
-            code,
-            support: written(&drawings, &cranes),
-        })
-        .collect();
-    entries.sort_by(|a, b| code::order(&a.code, &b.code));
-    catalogue::bytes(&entries)
-}
-
 /// The list that is right for an accepted survey.
-fn right(survey: &[u8], [threshold, limit]: [u32; 2]) -> Vec<u8> {
-    counted(survey, threshold, limit, different, different)
+fn right(survey: &[u8], settings: [u32; 2]) -> Vec<u8> {
+    RIGHT.list(survey, settings)
 }
 
 /// Whether two lists have as many entries, and those are equal by what is looked at of each.
 fn alike<T: PartialEq>(one: &[u8], other: &[u8], looked_at: impl Fn(&[u8]) -> T) -> bool {
-    let pairs = one.chunks(42).zip(other.chunks(42));
+    let pairs = one.chunks(ENTRY).zip(other.chunks(ENTRY));
     one.len() == other.len() && pairs.into_iter().all(|(a, b)| looked_at(a) == looked_at(b))
 }
 
-/// An entry without its support.
-fn unsupported(entry: &[u8]) -> Vec<u8> {
-    [&entry[..1], &entry[2..]].concat()
+/// An entry or a list without the byte at a place.
+fn without(bytes: &[u8], at: usize) -> Vec<u8> {
+    [&bytes[..at], &bytes[at + 1..]].concat()
+}
+
+/// Whether two lists are equal but perhaps for a byte of theirs.
+fn but_one_byte(one: &[u8], other: &[u8], at: usize) -> bool {
+    one.len() == other.len() && at < one.len() && without(one, at) == without(other, at)
 }
 
 /// The entries of a list, sorted as bytes.
 fn sorted(list: &[u8]) -> Vec<&[u8]> {
-    let mut entries: Vec<&[u8]> = list.chunks(42).collect();
+    let mut entries: Vec<&[u8]> = list.chunks(ENTRY).collect();
     entries.sort();
     entries
 }
 
 /// Its first bytes, those of the whole entries.
 fn whole_entries(list: &[u8]) -> &[u8] {
-    &list[..list.len() - list.len() % 42]
-}
-
-/// A count of the drawings that contain a pattern, in a survey of these cranes.
-type Count = fn(&[usize], &[u8]) -> usize;
-
-fn drawings(drawings: &[usize], _: &[u8]) -> usize {
-    drawings.len()
-}
-
-fn cranes_of(drawings: &[usize], cranes: &[u8]) -> Vec<u8> {
-    drawings.iter().map(|&d| cranes[d]).collect()
-}
-
-fn different(drawings: &[usize], cranes: &[u8]) -> usize {
-    cranes::different(&cranes_of(drawings, cranes))
-}
-
-/// The different cranes, told apart by a part of their number.
-fn different_by(drawings: &[usize], cranes: &[u8], part: u8) -> usize {
-    let parts: Vec<u8> = cranes.iter().map(|crane| crane & part).collect();
-    different(drawings, &parts)
-}
-
-/// The different cranes, but for one that is passed over.
-fn different_without(drawings: &[usize], cranes: &[u8], without: u8) -> usize {
-    let cranes = cranes_of(drawings, cranes);
-    cranes::different(&cranes) - usize::from(cranes.contains(&without))
-}
-
-/// The cranes that are not that of the drawing before.
-fn changes(drawings: &[usize], cranes: &[u8]) -> usize {
-    let mut cranes = cranes_of(drawings, cranes);
-    cranes.dedup();
-    cranes.len()
-}
-
-/// The drawings whose crane has no later sheet, whether that contains the pattern or not.
-fn last_sheets(drawings: &[usize], cranes: &[u8]) -> usize {
-    let is_last = |&&d: &&usize| !cranes[d + 1..].contains(&cranes[d]);
-    drawings.iter().filter(is_last).count()
-}
-
-/// The drawings of whose crane the next sheet does not contain the pattern, though one after it may.
-fn before_next_sheets(drawings: &[usize], cranes: &[u8]) -> usize {
-    let next = |d: usize| (d + 1..cranes.len()).find(|&e| cranes[e] == cranes[d]);
-    let is_last = |&&d: &&usize| next(d).is_none_or(|e| !drawings.contains(&e));
-    drawings.iter().filter(is_last).count()
-}
-
-/// The different cranes, with the last of 32 drawings as one more.
-fn last_apart(drawings: &[usize], cranes: &[u8]) -> usize {
-    let others: Vec<usize> = drawings.iter().copied().filter(|&d| d != 31).collect();
-    different(&others, cranes) + usize::from(drawings.contains(&31))
+    &list[..list.len() - list.len() % ENTRY]
 }
 
 fn devices(drawing: &[u8]) -> u8 {
@@ -428,7 +425,7 @@ fn spoil_pair(given: &Given, came: &mut Came, wanted: impl Fn([usize; 2], [[u8; 
 
 /// The records of an entry.
 fn records(entry: &[u8]) -> std::slice::Chunks<'_, u8> {
-    entry[2..][..5 * usize::from(entry[0])].chunks(5)
+    entry[RECORDS_AT..][..code::RECORD * usize::from(entry[0])].chunks(code::RECORD)
 }
 
 fn entry_devices(entry: &[u8]) -> u8 {
@@ -459,10 +456,60 @@ fn lose_one_of_few(given: &Given, came: &mut Came) {
 }
 
 fn change_a_support_of_few(given: &Given, came: &mut Came) {
-    spoil_last_of_few(given, came, |entries, last| entries[last][1] ^= 1);
+    spoil_last_of_few(given, came, |entries, last| entries[last][SUPPORT_AT] ^= 1);
+}
+
+fn change_an_example_of_few(given: &Given, came: &mut Came) {
+    spoil_last_of_few(given, came, |entries, last| entries[last][EXAMPLE_AT] ^= 1);
+}
+
+/// Whether an entry's example is a drawing that contains its pattern.
+fn contains(survey: &[u8], entry: &[u8]) -> bool {
+    let record = survey.chunks(RECORD).nth(entry[EXAMPLE_AT].into());
+    let code = records(entry).collect::<Vec<_>>().concat();
+    let pattern = code::described(&code::read(&code).expect("a code"));
+    record.is_some_and(|record| {
+        let drawing = Drawing::read(record).expect("an accepted drawing");
+        map::least_map(&pattern, &drawing).is_some()
+    })
 }
 
 /// Mistakes that each check of a list can make.
+fn yes_to_any_example(given: &Given, came: &mut Came) {
+    came.say_yes(given, |list, right| {
+        alike(list, right, |entry| without(entry, EXAMPLE_AT))
+    });
+}
+
+fn yes_to_any_that_contains(given: &Given, came: &mut Came) {
+    came.say_yes(given, |list, right| {
+        alike(list, right, |entry| without(entry, EXAMPLE_AT))
+            && list.chunks(ENTRY).all(|entry| contains(given.first, entry))
+    });
+}
+
+fn yes_to_old_form(given: &Given, came: &mut Came) {
+    if let (0 | 18, &[threshold, limit]) = (came.refusal(), given.settings) {
+        let right = right(given.first, [threshold, limit]);
+        if !right.is_empty() && given.second == rules::old_form(&right) {
+            *came.returned = 1;
+        }
+    }
+}
+
+fn no_for_length_of_old_form(given: &Given, came: &mut Came) {
+    if came.refusal() == 18 && given.second.len() % OLD_ENTRY == 0 {
+        *came.returned = 0;
+    }
+}
+
+fn length_of_old_form(given: &Given, came: &mut Came) {
+    no_for_length_of_old_form(given, came);
+    if came.answered() && given.second.len() % OLD_ENTRY != 0 {
+        came.refuse(18, 0);
+    }
+}
+
 fn yes_to_early_end(given: &Given, came: &mut Came) {
     came.say_yes(given, |list, right| {
         !list.is_empty() && right.starts_with(list)
@@ -474,7 +521,9 @@ fn yes_to_more(given: &Given, came: &mut Came) {
 }
 
 fn yes_to_any_support(given: &Given, came: &mut Came) {
-    came.say_yes(given, |list, right| alike(list, right, unsupported));
+    came.say_yes(given, |list, right| {
+        alike(list, right, |entry| without(entry, SUPPORT_AT))
+    });
 }
 
 fn no_to_empty(given: &Given, came: &mut Came) {
@@ -1027,7 +1076,7 @@ pub const SHIMS: &[(&str, &str, Spoil)] = &[
         "supports in catalogues of over 20,000 entries",
         |_, came| {
             if came.count() > 20_000 {
-                came.spoil(42 * 20_000 + 1);
+                came.spoil(ENTRY * 20_000 + SUPPORT_AT);
             }
         },
     ),
@@ -1050,28 +1099,18 @@ pub const SHIMS: &[(&str, &str, Spoil)] = &[
         },
     ),
     ("catalogue", "supports of 32", |_, came| {
-        came.spoil_supports(|entry| entry[1] == 32)
+        came.spoil_supports(|entry| entry[SUPPORT_AT] == 32)
     }),
     (
         "catalogue",
         "the last record of an eighth cable",
         |_, came| {
-            if came.answered() {
-                let count = came.count();
-                for entry in came
-                    .output
-                    .chunks_mut(42)
-                    .take(count)
-                    .filter(|entry| entry[0] == 8)
-                {
-                    entry[41] ^= 1;
-                }
-            }
+            came.spoil_entries(EXAMPLE_AT - 1, |entry| entry[0] == 8);
         },
     ),
     ("catalogue", "zeros behind an entry's records", |_, came| {
         if came.answered() && came.count() > 0 && came.output[0] < 8 {
-            came.spoil(41);
+            came.spoil(EXAMPLE_AT - 1);
         }
     }),
     ("catalogue", "the last entry left out", |_, came| {
@@ -1081,12 +1120,12 @@ pub const SHIMS: &[(&str, &str, Spoil)] = &[
     }),
     ("catalogue", "two entries exchanged", |_, came| {
         if came.count() > 1 {
-            let (first, rest) = came.output.split_at_mut(42);
-            first.swap_with_slice(&mut rest[..42]);
+            let (first, rest) = came.output.split_at_mut(ENTRY);
+            first.swap_with_slice(&mut rest[..ENTRY]);
         }
     }),
     ("catalogue", "the byte behind the entries", |_, came| {
-        came.spoil_behind(42)
+        came.spoil_behind(ENTRY)
     }),
     ("catalogue", "15 with a byte that is not zero", |_, came| {
         if came.refusal() == 15 {
@@ -1130,7 +1169,7 @@ pub const SHIMS: &[(&str, &str, Spoil)] = &[
                 let count = came.count();
                 *came.returned -= came
                     .output
-                    .chunks(42)
+                    .chunks(ENTRY)
                     .take(count)
                     .filter(|entry| entry[0] == 8)
                     .count() as u64;
@@ -1140,51 +1179,53 @@ pub const SHIMS: &[(&str, &str, Spoil)] = &[
     (
         "catalogue",
         "drawings counted instead of cranes",
-        |given, came| came.list_counted(given, drawings, drawings),
+        |given, came| came.list_counted(given, rules::drawings, rules::drawings),
     ),
     (
         "catalogue",
         "supports that are numbers of drawings",
-        |given, came| came.list_counted(given, different, drawings),
+        |given, came| came.list_counted(given, rules::different, rules::drawings),
     ),
     (
         "catalogue",
         "the threshold held against drawings",
-        |given, came| came.list_counted(given, drawings, different),
+        |given, came| came.list_counted(given, rules::drawings, rules::different),
     ),
     (
         "catalogue",
         "equal cranes merged only where side by side",
-        |given, came| came.list_counted(given, changes, changes),
+        |given, came| came.list_counted(given, rules::changes, rules::changes),
     ),
     (
         "catalogue",
         "a crane counted by its last sheet alone",
-        |given, came| came.list_counted(given, last_sheets, last_sheets),
+        |given, came| came.list_counted(given, rules::last_sheets, rules::last_sheets),
     ),
     (
         "catalogue",
         "a sheet merged only with the next of its crane",
-        |given, came| came.list_counted(given, before_next_sheets, before_next_sheets),
+        |given, came| {
+            came.list_counted(given, rules::before_next_sheets, rules::before_next_sheets)
+        },
     ),
     (
         "catalogue",
         "the last of 32 drawings counted as a crane of its own",
-        |given, came| came.list_counted(given, last_apart, last_apart),
+        |given, came| came.list_counted(given, rules::last_apart, rules::last_apart),
     ),
     ("catalogue", "crane 0 not counted", |given, came| {
-        let count: Count = |drawings, cranes| different_without(drawings, cranes, 0);
+        let count: Rule = |drawings, cranes| rules::different_without(drawings, cranes, 0);
         came.list_counted(given, count, count)
     }),
     ("catalogue", "crane 255 not counted", |given, came| {
-        let count: Count = |drawings, cranes| different_without(drawings, cranes, 255);
+        let count: Rule = |drawings, cranes| rules::different_without(drawings, cranes, 255);
         came.list_counted(given, count, count)
     }),
     (
         "catalogue",
         "cranes told apart by their low five bits",
         |given, came| {
-            let count: Count = |drawings, cranes| different_by(drawings, cranes, 31);
+            let count: Rule = |drawings, cranes| rules::different_by(drawings, cranes, 31);
             came.list_counted(given, count, count)
         },
     ),
@@ -1192,7 +1233,7 @@ pub const SHIMS: &[(&str, &str, Spoil)] = &[
         "catalogue",
         "cranes told apart by their low seven bits",
         |given, came| {
-            let count: Count = |drawings, cranes| different_by(drawings, cranes, 127);
+            let count: Rule = |drawings, cranes| rules::different_by(drawings, cranes, 127);
             came.list_counted(given, count, count)
         },
     ),
@@ -1200,13 +1241,8 @@ pub const SHIMS: &[(&str, &str, Spoil)] = &[
         "catalogue",
         "supports that are all cranes of the survey",
         |given, came| {
-            if came.answered() {
-                let all = cranes::different(&cranes::of_drawings(given.first));
-                let count = came.count();
-                for entry in came.output.chunks_mut(42).take(count) {
-                    entry[1] = all as u8;
-                }
-            }
+            let all = cranes::different(&cranes::of_drawings(given.first));
+            came.change_entries(|entry| entry[SUPPORT_AT] = all as u8);
         },
     ),
     ("catalogue", "7 for a crane that is not 0", |given, came| {
@@ -1233,6 +1269,112 @@ pub const SHIMS: &[(&str, &str, Spoil)] = &[
     ),
     (
         "catalogue",
+        "the highest drawing as the example",
+        |given, came| came.list_examples(given, rules::highest),
+    ),
+    (
+        "catalogue",
+        "the second drawing as the example",
+        |given, came| came.list_examples(given, rules::second),
+    ),
+    ("catalogue", "the crane as the example", |given, came| {
+        came.list_examples(given, rules::crane)
+    }),
+    ("catalogue", "the support as the example", |given, came| {
+        came.list_examples(given, rules::different)
+    }),
+    ("catalogue", "examples counted from 1", |given, came| {
+        came.list_examples(given, rules::from_one)
+    }),
+    ("catalogue", "example 0 always", |given, came| {
+        came.list_examples(given, rules::zero)
+    }),
+    (
+        "catalogue",
+        "examples of 16 or more told as of 16 fewer",
+        |given, came| came.list_examples(given, rules::four_bits),
+    ),
+    (
+        "catalogue",
+        "the lowest of the last sheets as the example",
+        |given, came| came.list_examples(given, rules::last_of_its_crane),
+    ),
+    (
+        "catalogue",
+        "the first sheet of its crane as the example",
+        |given, came| came.list_examples(given, rules::first_of_its_crane),
+    ),
+    (
+        "catalogue",
+        "the drawing of the lowest crane as the example",
+        |given, came| came.list_examples(given, rules::of_the_lowest_crane),
+    ),
+    (
+        "catalogue",
+        "the example of the code without its last record",
+        |_, came| {
+            if came.answered() {
+                let list = &came.output[..ENTRY * came.count()];
+                came.list_bytes(&rules::of_parents(list));
+            }
+        },
+    ),
+    ("catalogue", "the example of the entry before", |_, came| {
+        if came.answered() {
+            for k in (1..came.count()).rev() {
+                let before = came.output[ENTRY * (k - 1) + EXAMPLE_AT];
+                came.output[ENTRY * k + EXAMPLE_AT] = before;
+            }
+        }
+    }),
+    (
+        "catalogue",
+        "lone devices not numbered in examples",
+        |given, came| {
+            if came.answered() {
+                let list = &came.output[..ENTRY * came.count()];
+                came.list_bytes(&rules::without_lone(given.first, list));
+            }
+        },
+    ),
+    ("catalogue", "support and example exchanged", |_, came| {
+        came.change_entries(|entry| entry.swap(SUPPORT_AT, EXAMPLE_AT))
+    }),
+    (
+        "catalogue",
+        "the example right behind the records",
+        |_, came| {
+            came.change_entries(|entry| {
+                let end = RECORDS_AT + code::RECORD * usize::from(entry[0]);
+                entry.swap(end, EXAMPLE_AT)
+            })
+        },
+    ),
+    ("catalogue", "examples left as they were", |_, came| {
+        came.leave_examples()
+    }),
+    ("catalogue", "examples of 31", |_, came| {
+        came.spoil_entries(EXAMPLE_AT, |entry| entry[EXAMPLE_AT] == 31)
+    }),
+    ("catalogue", "examples behind eight records", |_, came| {
+        came.spoil_entries(EXAMPLE_AT, |entry| entry[0] == 8 && entry[EXAMPLE_AT] > 0)
+    }),
+    (
+        "catalogue",
+        "examples in catalogues of over 20,000 entries",
+        |_, came| {
+            if came.count() > 20_000 {
+                came.spoil(ENTRY * 20_000 + EXAMPLE_AT);
+            }
+        },
+    ),
+    (
+        "catalogue",
+        "entries without examples, as before",
+        |_, came| came.list_old(),
+    ),
+    (
+        "catalogue",
         "an entry of few cables lost at greater limits",
         lose_one_of_few,
     ),
@@ -1242,6 +1384,11 @@ pub const SHIMS: &[(&str, &str, Spoil)] = &[
         change_a_support_of_few,
     ),
     (
+        "catalogue",
+        "another example of few cables at greater limits",
+        change_an_example_of_few,
+    ),
+    (
         "limits",
         "an entry of few cables lost at greater limits",
         lose_one_of_few,
@@ -1250,6 +1397,11 @@ pub const SHIMS: &[(&str, &str, Spoil)] = &[
         "limits",
         "another support of few cables at greater limits",
         change_a_support_of_few,
+    ),
+    (
+        "limits",
+        "another example of few cables at greater limits",
+        change_an_example_of_few,
     ),
     (
         "limits",
@@ -1292,6 +1444,15 @@ pub const SHIMS: &[(&str, &str, Spoil)] = &[
     ("book", "supports of 1", |_, came| {
         came.spoil_supports(|_| true)
     }),
+    ("book", "examples of 1", |_, came| {
+        came.spoil_entries(EXAMPLE_AT, |_| true)
+    }),
+    ("book", "examples left as they were", |_, came| {
+        came.leave_examples()
+    }),
+    ("book", "entries without examples, as before", |_, came| {
+        came.list_old()
+    }),
     ("book", "the last two entries exchanged", |_, came| {
         if came.count() > 1 {
             let mut entries = came.entries();
@@ -1301,7 +1462,7 @@ pub const SHIMS: &[(&str, &str, Spoil)] = &[
         }
     }),
     ("book", "the byte behind the entries", |_, came| {
-        came.spoil_behind(42)
+        came.spoil_behind(ENTRY)
     }),
     ("book", "17 told before 16", |given, came| {
         if came.refusal() == 16 && !(1..=3).contains(&given.settings[2]) {
@@ -1325,8 +1486,8 @@ pub const SHIMS: &[(&str, &str, Spoil)] = &[
     ),
     ("check_list", "yes to a list with gaps", |given, came| {
         came.say_yes(given, |list, right| {
-            list.chunks(42)
-                .all(|entry| right.chunks(42).any(|other| other == entry))
+            list.chunks(ENTRY)
+                .all(|entry| right.chunks(ENTRY).any(|other| other == entry))
         })
     }),
     (
@@ -1352,17 +1513,78 @@ pub const SHIMS: &[(&str, &str, Spoil)] = &[
         |given, came| {
             came.say_yes(given, |list, right| {
                 let behind = list.strip_prefix(right);
-                behind.is_some_and(|behind| behind.len() == 42 && right.ends_with(behind))
+                behind.is_some_and(|behind| behind.len() == ENTRY && right.ends_with(behind))
             })
         },
     ),
     ("check_list", "yes with a wrong support", yes_to_any_support),
     ("check_list", "yes with a greater support", |given, came| {
         came.say_yes(given, |list, right| {
-            let mut pairs = list.chunks(42).zip(right.chunks(42));
-            alike(list, right, unsupported) && pairs.all(|(a, b)| a[1] >= b[1])
+            let mut pairs = list.chunks(ENTRY).zip(right.chunks(ENTRY));
+            alike(list, right, |entry| without(entry, SUPPORT_AT))
+                && pairs.all(|(a, b)| a[SUPPORT_AT] >= b[SUPPORT_AT])
         })
     }),
+    ("check_list", "examples not compared", yes_to_any_example),
+    (
+        "check_list",
+        "yes with any drawing that contains the pattern",
+        yes_to_any_that_contains,
+    ),
+    ("check_list", "yes with a greater example", |given, came| {
+        came.say_yes(given, |list, right| {
+            let mut pairs = list.chunks(ENTRY).zip(right.chunks(ENTRY));
+            alike(list, right, |entry| without(entry, EXAMPLE_AT))
+                && pairs.all(|(a, b)| a[EXAMPLE_AT] >= b[EXAMPLE_AT])
+        })
+    }),
+    (
+        "check_list",
+        "the first entry's example not compared",
+        |given, came| came.say_yes(given, |list, right| but_one_byte(list, right, EXAMPLE_AT)),
+    ),
+    (
+        "check_list",
+        "the last entry's example not compared",
+        |given, came| {
+            came.say_yes(given, |list, right| {
+                but_one_byte(list, right, right.len().wrapping_sub(1))
+            })
+        },
+    ),
+    (
+        "check_list",
+        "the first and the last example alone compared",
+        |given, came| {
+            came.say_yes(given, |list, right| {
+                let ends = |list: &[u8]| {
+                    let examples = list.chunks(ENTRY).map(|entry| entry[EXAMPLE_AT]);
+                    [examples.clone().next(), examples.last()]
+                };
+                alike(list, right, |entry| without(entry, EXAMPLE_AT)) && ends(list) == ends(right)
+            })
+        },
+    ),
+    (
+        "check_list",
+        "examples held against the highest drawings",
+        |given, came| {
+            came.say_by(
+                given,
+                Rules {
+                    example: rules::highest,
+                    ..RIGHT
+                },
+            )
+        },
+    ),
+    ("check_list", "yes to the form of before", yes_to_old_form),
+    (
+        "check_list",
+        "no to lengths of the form of before",
+        no_for_length_of_old_form,
+    ),
+    ("check_list", "18 by the form of before", length_of_old_form),
     ("check_list", "yes in any order", |given, came| {
         came.say_yes(given, |list, right| sorted(list) == sorted(right))
     }),
@@ -1371,20 +1593,21 @@ pub const SHIMS: &[(&str, &str, Spoil)] = &[
         "yes whatever stands behind an entry's records",
         |given, came| {
             came.say_yes(given, |list, right| {
-                let front = |entry: &[u8]| {
-                    let end = 2 + 5 * usize::from(entry[0]);
-                    entry.get(..end).map(<[u8]>::to_vec)
+                let but_padding = |entry: &[u8]| {
+                    let end = RECORDS_AT + code::RECORD * usize::from(entry[0]);
+                    let front = entry[..EXAMPLE_AT].get(..end)?;
+                    Some([front, &entry[EXAMPLE_AT..]].concat())
                 };
-                alike(list, right, front)
+                alike(list, right, but_padding)
             })
         },
     ),
     (
         "check_list",
-        "an entry's last byte not compared",
+        "the last byte of eight records not compared",
         |given, came| {
             came.say_yes(given, |list, right| {
-                alike(list, right, |entry| entry[..41].to_vec())
+                alike(list, right, |entry| without(entry, EXAMPLE_AT - 1))
             })
         },
     ),
@@ -1399,7 +1622,9 @@ pub const SHIMS: &[(&str, &str, Spoil)] = &[
     ),
     ("check_list", "codes not compared", |given, came| {
         came.say_yes(given, |list, right| {
-            alike(list, right, |entry| [entry[0], entry[1]])
+            alike(list, right, |entry| {
+                [entry[0], entry[SUPPORT_AT], entry[EXAMPLE_AT]]
+            })
         })
     }),
     (
@@ -1407,7 +1632,7 @@ pub const SHIMS: &[(&str, &str, Spoil)] = &[
         "the last entry not compared",
         |given, came| {
             came.say_yes(given, |list, right| {
-                let front = right.len().saturating_sub(42);
+                let front = right.len().saturating_sub(ENTRY);
                 list.len() == right.len() && list[..front] == right[..front]
             })
         },
@@ -1421,9 +1646,10 @@ pub const SHIMS: &[(&str, &str, Spoil)] = &[
         "check_list",
         "nothing compared behind 20,000 entries",
         |given, came| {
-            if given.second.len() > 42 * 20_000 {
+            let looked_at = ENTRY * 20_000;
+            if given.second.len() > looked_at {
                 came.say_yes(given, |list, right| {
-                    list.len() == right.len() && list[..42 * 20_000] == right[..42 * 20_000]
+                    list.len() == right.len() && list[..looked_at] == right[..looked_at]
                 });
             }
         },
@@ -1438,8 +1664,8 @@ pub const SHIMS: &[(&str, &str, Spoil)] = &[
     ("check_list", "no to supports of 32", |given, came| {
         if given
             .second
-            .chunks(42)
-            .any(|entry| entry.get(1) == Some(&32))
+            .chunks(ENTRY)
+            .any(|entry| entry.get(SUPPORT_AT) == Some(&32))
         {
             came.say(false);
         }
@@ -1467,7 +1693,7 @@ pub const SHIMS: &[(&str, &str, Spoil)] = &[
     (
         "check_list",
         "drawings counted instead of cranes",
-        |given, came| came.say_counted(given, drawings, drawings),
+        |given, came| came.say_counted(given, rules::drawings, rules::drawings),
     ),
     ("check_list", "18 told as no", no_for_length),
     ("check_list", "18 told of drawing 1", |_, came| {
@@ -1496,7 +1722,7 @@ pub const SHIMS: &[(&str, &str, Spoil)] = &[
     ),
     ("check_list", "18 for what is no entry", |given, came| {
         let is_entry = |entry: &[u8]| (1..=8).contains(&entry[0]);
-        if came.answered() && !given.second.chunks(42).all(is_entry) {
+        if came.answered() && !given.second.chunks(ENTRY).all(is_entry) {
             came.refuse(18, 0);
         }
     }),
@@ -1504,7 +1730,7 @@ pub const SHIMS: &[(&str, &str, Spoil)] = &[
         "check_list",
         "18 for a list longer than any catalogue",
         |given, came| {
-            if came.answered() && given.second.len() > 42 * 8_446_368 {
+            if came.answered() && given.second.len() > ENTRY * 8_446_368 {
                 came.refuse(18, 0);
             }
         },
@@ -1552,7 +1778,7 @@ pub const SHIMS: &[(&str, &str, Spoil)] = &[
     (
         "check_usual",
         "two cranes taken as two drawings",
-        |given, came| came.say_counted(given, drawings, different),
+        |given, came| came.say_counted(given, rules::drawings, rules::different),
     ),
     (
         "check_usual",
@@ -1569,6 +1795,23 @@ pub const SHIMS: &[(&str, &str, Spoil)] = &[
         "check_usual",
         "yes with a wrong support",
         yes_to_any_support,
+    ),
+    ("check_usual", "examples not compared", yes_to_any_example),
+    (
+        "check_usual",
+        "yes with any drawing that contains the pattern",
+        yes_to_any_that_contains,
+    ),
+    ("check_usual", "yes to the form of before", yes_to_old_form),
+    (
+        "check_usual",
+        "no to lengths of the form of before",
+        no_for_length_of_old_form,
+    ),
+    (
+        "check_usual",
+        "18 by the form of before",
+        length_of_old_form,
     ),
     ("check_usual", "yes always", |_, came| came.say(true)),
     ("check_usual", "no to a list without entries", no_to_empty),
@@ -1598,7 +1841,7 @@ pub const SHIMS: &[(&str, &str, Spoil)] = &[
     (
         "check_four",
         "two cranes taken as two drawings",
-        |given, came| came.say_counted(given, drawings, different),
+        |given, came| came.say_counted(given, rules::drawings, rules::different),
     ),
     ("check_four", "yes to the usual list too", |given, came| {
         came.say_yes_for(given, USUAL)
@@ -1624,6 +1867,19 @@ pub const SHIMS: &[(&str, &str, Spoil)] = &[
     ),
     ("check_four", "yes to a list that goes on", yes_to_more),
     ("check_four", "yes with a wrong support", yes_to_any_support),
+    ("check_four", "examples not compared", yes_to_any_example),
+    (
+        "check_four",
+        "yes with any drawing that contains the pattern",
+        yes_to_any_that_contains,
+    ),
+    ("check_four", "yes to the form of before", yes_to_old_form),
+    (
+        "check_four",
+        "no to lengths of the form of before",
+        no_for_length_of_old_form,
+    ),
+    ("check_four", "18 by the form of before", length_of_old_form),
     ("check_four", "yes always", |_, came| came.say(true)),
     ("check_four", "no always", |_, came| came.say(false)),
     ("check_four", "no to a list without entries", no_to_empty),
@@ -1633,7 +1889,7 @@ pub const SHIMS: &[(&str, &str, Spoil)] = &[
         "18 for an entry of over four cables",
         |given, came| {
             let is_more = |entry: &[u8]| u32::from(entry[0]) > FORMER[1];
-            if came.answered() && given.second.chunks(42).any(is_more) {
+            if came.answered() && given.second.chunks(ENTRY).any(is_more) {
                 came.refuse(18, 0);
             }
         },

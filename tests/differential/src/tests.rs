@@ -129,10 +129,11 @@ fn d12(cranes: [u8; 2]) -> Vec<Sheet> {
 #[test]
 fn the_catalogue_of_the_paper() {
     let survey = d12([0, 1]);
-    let entries: Vec<Entry> = [(&PATH[..1], 2), (PATH, 2), (TRIANGLE, 1)]
-        .map(|(pairs, support)| Entry {
+    let entries: Vec<Entry> = [(&PATH[..1], 2, 0), (PATH, 2, 0), (TRIANGLE, 1, 1)]
+        .map(|(pairs, support, example)| Entry {
             code: plain_code(pairs),
             support,
+            example,
         })
         .to_vec();
     assert_eq!(Codes::default().catalogue(&survey, 1, 4), entries);
@@ -140,7 +141,8 @@ fn the_catalogue_of_the_paper() {
 
     let written = catalogue::bytes(&entries);
     assert_eq!(written.len(), 3 * catalogue::ENTRY);
-    assert_eq!(written[42..56], [2, 2, 0, 1, 1, 5, 1, 1, 2, 1, 5, 1, 0, 0]);
+    assert_eq!(written[43..57], [2, 2, 0, 1, 1, 5, 1, 1, 2, 1, 5, 1, 0, 0]);
+    assert_eq!([written[42], written[85], written[128]], [0, 0, 1]);
 }
 
 #[test]
@@ -185,6 +187,47 @@ fn the_catalogue_of_one_crane() {
     }
 }
 
+/// Request R-8: D3 and D4, as they are and exchanged; the examples are drawings, whichever their cranes are.
+#[test]
+fn the_examples_of_the_paper() {
+    for cranes in [[0, 1], [7, 9], [9, 7], [5, 5]] {
+        let survey = d12(cranes);
+        let exchanged: Vec<Sheet> = survey.iter().rev().cloned().collect();
+        for (survey, due) in [(survey, [0, 0, 1]), (exchanged, [0, 0, 0])] {
+            let entries = Codes::default().catalogue(&survey, 1, 4);
+            let examples = entries.iter().map(|entry| entry.example);
+            assert!(examples.eq(due), "{cranes:?}");
+        }
+    }
+}
+
+/// Request R-8: both paths begin with cable 5, and the second alone goes on with 7.
+#[test]
+fn an_example_of_its_own() {
+    let path = |kind| Drawing {
+        kinds: vec![1; 3],
+        cables: [(0, 1, 5), (1, 2, kind)]
+            .map(|(a, b, kind)| Cable { a, b, kind })
+            .to_vec(),
+    };
+    let text = |threshold| {
+        let survey = each_its_crane(&[path(6), path(7)]);
+        let entries = Codes::default().of_survey(&survey, [threshold, 4]).ok();
+        catalogue::text(&entries.expect("accepted"))
+    };
+    let lines = [
+        "2 @0 0-1:1.5.1",
+        "1 @0 0-1:1.5.1 1-2:1.6.1",
+        "1 @1 0-1:1.5.1 1-2:1.7.1",
+        "1 @0 0-1:1.6.1",
+        "1 @1 0-1:1.7.1",
+        "5 patterns",
+        "",
+    ];
+    assert_eq!(text(1), lines.join("\n"));
+    assert_eq!(text(2), "2 @0 0-1:1.5.1\n1 patterns\n");
+}
+
 /// Drawings with much in common.
 fn alike(random: &mut Random, drawings: usize) -> Vec<Drawing> {
     let shape = Shape {
@@ -200,23 +243,28 @@ fn alike(random: &mut Random, drawings: usize) -> Vec<Drawing> {
     (0..drawings).map(|_| near(random)).collect()
 }
 
-/// Each support is the number of cranes by the search for maps too, and a pattern that reaches the threshold is listed.
+/// Each support is the number of cranes by the search for maps too, each example the first drawing that has one, and a pattern that reaches the
+/// threshold is listed.
 #[test]
-fn supports_by_maps() {
+fn supports_and_examples_by_maps() {
     let random = &mut Random::new(73);
     for threshold in [1, 1, 2, 2, 3, 3, 4, 4] {
         let drawings = alike(random, 8);
         let survey = generate::survey(random, &drawings);
         let sheets = catalogue::read_survey(&survey).expect("accepted");
+        let has = |entry: &Entry, sheet: &Sheet| {
+            map::least_map(&code::described(&entry.code), &sheet.drawing).is_some()
+        };
         let cranes = |entry: &Entry| {
-            let pattern = code::described(&entry.code);
-            let has = |sheet: &&Sheet| map::least_map(&pattern, &sheet.drawing).is_some();
-            let cranes: BTreeSet<u8> = sheets.iter().filter(has).map(|s| s.crane).collect();
+            let containing = sheets.iter().filter(|sheet| has(entry, sheet));
+            let cranes: BTreeSet<u8> = containing.map(|sheet| sheet.crane).collect();
             cranes.len()
         };
         let entries = Codes::default().catalogue(&sheets, threshold, 4);
         for entry in &entries {
             assert_eq!(entry.support, cranes(entry));
+            let first = sheets.iter().position(|sheet| has(entry, sheet));
+            assert_eq!(Some(entry.example), first);
         }
         let all = Codes::default().catalogue_of_drawings(&drawings, 1, 4);
         let enough = all.iter().filter(|entry| cranes(entry) >= threshold);
@@ -257,11 +305,16 @@ fn usual_text(survey: &[u8]) -> String {
     catalogue::text(&entries.expect("accepted"))
 }
 
-/// Request R-6: the text of D12 is that of before.
+/// Request R-8: the first line is the paper's.
 #[test]
 fn the_usual_catalogue_of_the_paper() {
     let text = usual_text(&each_its_crane(&[plain(PATH), plain(TRIANGLE)]));
-    let lines = ["2 0-1:1.5.1", "2 0-1:1.5.1 1-2:1.5.1", "2 patterns", ""];
+    let lines = [
+        "2 @0 0-1:1.5.1",
+        "2 @0 0-1:1.5.1 1-2:1.5.1",
+        "2 patterns",
+        "",
+    ];
     assert_eq!(text, lines.join("\n"));
     assert_eq!(text, include_str!("../../../crates/catalogue/stdout"));
 }

@@ -6,6 +6,7 @@ mod checks;
 mod cranes;
 mod drawings;
 mod edges;
+mod examples;
 mod large;
 mod lists;
 mod lone;
@@ -165,6 +166,19 @@ impl<'a> Call<'a> {
         }
     }
 
+    /// What there is to tell of the examples of a catalogue that is answered.
+    fn told_of_examples(&self, codes: &mut Codes, answer: &Answer) -> Vec<&'static str> {
+        let (Call::WriteCatalogue(survey, ..) | Call::UsualCatalogue(survey, _), 0) =
+            (self, answer.refused.number)
+        else {
+            return Vec::new();
+        };
+        let sheets = catalogue::read_survey(survey).expect("an accepted survey");
+        let entries = self.entries(codes, survey).expect("a catalogue");
+        let containing = codes.containing(&sheets, self.settings()[1] as usize);
+        crate::examples::told(&sheets, &entries, &containing)
+    }
+
     /// What there is to tell of a list that is checked, once its survey is accepted; by a call of settings with a name, beside these too.
     fn told_of_list(&self, codes: &mut Codes) -> Vec<&'static str> {
         let (survey, list, named) = match *self {
@@ -202,12 +216,13 @@ pub struct List {
     beside_cranes: BTreeSet<(&'static str, Seen)>,
     beside_lists: BTreeSet<(&'static str, Seen)>,
     beside_agreements: BTreeSet<(&'static str, Seen)>,
+    beside_examples: BTreeSet<(&'static str, Seen)>,
     fetches: Vec<(Vec<u8>, usize)>,
     agreements: Vec<(&'static str, [Vec<u8>; 2], Answer)>,
 }
 
 /// What a call may answer: something in a word, or a refusal and, if it is not the only or the first one's, whose; and what is lone
-/// about that which it comes from, or what there is to tell of cranes, of a list or of an agreement.
+/// about that which it comes from, or what there is to tell of cranes, of a list, of an agreement or of examples.
 #[derive(Clone, Copy, Debug, PartialEq, Eq, PartialOrd, Ord)]
 enum Seen {
     Answer(&'static str, &'static str),
@@ -306,6 +321,10 @@ impl List {
             self.beside_lists
                 .insert((parts.word, Seen::of(&answer, told)));
         }
+        for told in call.told_of_examples(&mut self.codes, &answer) {
+            self.beside_examples
+                .insert((parts.word, Seen::of(&answer, told)));
+        }
         self.put_parts(&name, &parts);
         if crate::agreement::CALLS.contains(&parts.word) {
             self.put_agreeing(&name, &answer);
@@ -337,6 +356,9 @@ impl List {
         for told in crate::agreement::told(&given, answer) {
             self.beside_agreements
                 .insert((call, Seen::of(answer, told)));
+        }
+        if let Some(told) = crate::examples::told_of_lent(call, lent, answer) {
+            self.beside_examples.insert((call, Seen::of(answer, told)));
         }
         if crate::agreement::CALLS.contains(&call) {
             let codes = [parts.first, parts.second].map(<[u8]>::to_vec);
@@ -377,6 +399,7 @@ pub fn list() -> List {
     large::put(&mut list);
     book::put(&mut list);
     pairs::put(&mut list);
+    examples::put(&mut list);
     cranes::put(&mut list);
     lists::put(&mut list);
     agreement::put(&mut list);

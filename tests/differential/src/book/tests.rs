@@ -110,8 +110,8 @@ fn the_table_of_the_document() {
         vec![a, b, one, two, three]
     };
     assert_eq!(stored, (0..9).map(counts).collect::<Vec<_>>());
-    assert!(document.contains("1,947 entries, 81,774 bytes"));
-    assert_eq!(codes(3, 3, 3).len() * catalogue::ENTRY, 81_774);
+    assert!(document.contains("1,947 entries, 83,721 bytes"));
+    assert_eq!(codes(3, 3, 3).len() * catalogue::ENTRY, 83_721);
 }
 
 #[test]
@@ -166,9 +166,22 @@ fn settings_that_are_refused() {
     }
 }
 
+/// Request R-8: no survey stands behind a book.
+#[test]
+fn no_entry_has_support_or_example() {
+    for [a, b, limit] in settings() {
+        let entries = entries(a as u8, b as u8, limit);
+        let bytes = catalogue::bytes(&entries);
+        for entry in bytes.chunks(catalogue::ENTRY) {
+            let zeros = [entry[catalogue::SUPPORT_AT], entry[catalogue::EXAMPLE_AT]];
+            assert_eq!(zeros, [0, 0], "{a} {b} {limit}");
+        }
+    }
+}
+
 #[test]
 fn texts() {
-    assert_eq!(text(1, 1, 1), "0 0-1:0.0.0\n1 patterns\n");
+    assert_eq!(text(1, 1, 1), "0 @0 0-1:0.0.0\n1 patterns\n");
     assert_eq!(text(0, 1, 0), "refused 16\n");
     assert_eq!(text(1, 1, 0), "refused 17\n");
     assert_eq!(

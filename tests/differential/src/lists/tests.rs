@@ -98,17 +98,57 @@ fn entries_that_are_read() {
     let right = catalogue::bytes(&entries);
     let parts: Vec<Entry> = right.chunks(ENTRY).filter_map(read).collect();
     assert_eq!(parts, entries);
-    for (at, value) in [(0, 0), (0, 9), (0, 2), (3, 2), (ENTRY - 1, 1)] {
+    for (at, value) in [(0, 0), (0, 9), (0, 2), (3, 2), (EXAMPLE_AT - 1, 1)] {
         let mut part = right[..ENTRY].to_vec();
         part[at] = value;
         assert_eq!(read(&part), None, "{at}");
     }
-    // Any support can be read, and is wrong.
-    let mut other = right.clone();
-    other[SUPPORT_AT] = 255;
-    assert_eq!(read(&other[..ENTRY]).map(|entry| entry.support), Some(255));
-    assert!(is_right(&right, &entries) && !is_right(&other, &entries));
+    // Any support and any example can be read, and is wrong.
+    for (at, value, numbers) in [(SUPPORT_AT, 255, (255, 0)), (EXAMPLE_AT, 1, (2, 1))] {
+        let mut other = right.clone();
+        other[at] = value;
+        let entry = read(&other[..ENTRY]).expect("an entry");
+        assert_eq!((entry.support, entry.example), numbers);
+        assert!(is_right(&right, &entries) && !is_right(&other, &entries));
+    }
     assert!(is_right(&[], &[]) && !is_right(&[], &entries));
+}
+
+/// Of three entries one has another example, or several have; and none has any.
+#[test]
+fn lists_with_other_examples() {
+    let star = plain(&[(0, 1), (1, 2), (1, 3)]);
+    let entries = Codes::default().catalogue_of_drawings(&[star], 1, 4);
+    let right = catalogue::bytes(&entries);
+    for (changed, due) in [
+        (&[0][..], FIRST_EXAMPLE),
+        (&[1], MIDDLE_EXAMPLE),
+        (&[2], LAST_EXAMPLE),
+        (&[0, 2], EXAMPLES),
+    ] {
+        let mut list = right.clone();
+        for entry in changed {
+            list[ENTRY * entry + EXAMPLE_AT] = 31;
+        }
+        assert_eq!(told(&list, &right), due);
+        assert!(!is_right(&list, &entries), "{changed:?}");
+    }
+    let old = old_form(&right);
+    assert_eq!((old.len(), told(&old, &right)), (3 * 42, OLD_FORM));
+}
+
+/// Of 43 entries the old form has the length of 42.
+#[test]
+fn lists_of_43_patterns() {
+    for settings in [[1, 8], USUAL, FORMER] {
+        let entries = Codes::default().of_survey(&of_43_patterns(), settings);
+        let entries = entries.ok().expect("accepted");
+        let right = catalogue::bytes(&entries);
+        let old = old_form(&right);
+        assert_eq!([right.len(), old.len()], [43 * ENTRY, 42 * ENTRY]);
+        assert_eq!(told(&old, &right), OLD_FORM);
+        assert!(!is_right(&old, &entries));
+    }
 }
 
 /// The code of a lone device can be read; no catalogue has it.

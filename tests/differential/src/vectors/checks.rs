@@ -135,6 +135,15 @@ impl List {
         );
     }
 
+    /// A catalogue has this code with this example.
+    pub fn assert_example(&mut self, asked: &Asked, code: &[u8], example: usize) {
+        let entries = self.entries(asked);
+        let found = entries
+            .iter()
+            .find(|entry| code::bytes(&entry.code) == code);
+        assert_eq!(found.map(|entry| entry.example), Some(example), "{code:?}");
+    }
+
     fn assert_refused(&mut self, name: &str, call: Call, wanted: Refused) {
         assert_eq!(self.put(name, call).refused, wanted, "{name}");
     }

@@ -2,6 +2,7 @@
 use super::checks::Asked;
 use super::notation::{code, drawing, map, sheet, survey};
 use super::{Call, List};
+use crate::catalogue::ENTRY;
 use crate::cranes::OLD_RECORD;
 use crate::drawing::CRANE_AT;
 use crate::refused::Refused;
@@ -54,7 +55,8 @@ fn put_two(list: &mut List) {
 /// The support of the one cable, of the path and of the triangle that D3 and D4 contain.
 type Supports = [usize; 3];
 
-/// Drawings of these cranes: all their patterns, those that as many cranes have as there are drawings, and the usual catalogue.
+/// Drawings of these cranes: all their patterns, those that as many cranes have as there are drawings, and the usual catalogue. The example of the
+/// triangle is the first D4, that of the others drawing 0.
 fn put_supports(list: &mut List, sheets: &[(&str, u8)], supports: Supports) -> Vec<u8> {
     let records = sheets
         .iter()
@@ -69,15 +71,18 @@ fn put_supports(list: &mut List, sheets: &[(&str, u8)], supports: Supports) -> V
     };
     let reach = |threshold| supports.iter().filter(|&&s| s >= threshold).count();
     let patterns = ["01151", "01151 12151", "01151 12151 20151"];
-    for (pattern, support) in patterns.iter().zip(supports) {
+    let first_d4 = sheets.iter().position(|&(cables, _)| cables == D4);
+    let examples = [0, 0, first_d4.expect("a D4")];
+    for ((pattern, support), example) in patterns.iter().zip(supports).zip(examples) {
         list.assert_entry(&asked(1), &code(pattern), support, None);
+        list.assert_example(&asked(1), &code(pattern), example);
     }
     for threshold in [1, sheets.len()] {
         let name = format!("{name}, s {threshold}");
         let entries = list.put_catalogue(&name, &asked(threshold as u16));
         assert_eq!(entries, reach(threshold), "{name}");
     }
-    let usual = list.put(&name, Call::UsualCatalogue(&survey, 3 * 42));
+    let usual = list.put(&name, Call::UsualCatalogue(&survey, 3 * ENTRY));
     assert_eq!((usual.refused.number, usual.count), (0, reach(2)), "{name}");
     survey
 }
@@ -113,24 +118,30 @@ fn put_further_crane(list: &mut List) {
     list.assert_entry(&asked, &code("01172"), 1, None);
 }
 
-/// As many drawings as there may be: of one crane, and of eight with four sheets each, which take turns.
+/// As many drawings as there may be: of one crane, and of eight with four sheets each, which take turns. The last one alone is D4, so that the
+/// triangle has example 31.
 fn put_thirty_two(list: &mut List) {
     let of_cranes = |crane: fn(u8) -> u8| -> Vec<u8> {
-        (0..32).flat_map(|d| sheet(&of(D3), crane(d))).collect()
+        let cables = |d: u8| if d == 31 { D4 } else { D3 };
+        (0..32)
+            .flat_map(|d| sheet(&of(cables(d)), crane(d)))
+            .collect()
     };
-    for (name, survey, cranes) in [
-        ("thirty-two of one crane", of_cranes(|_| 7), 1),
-        ("thirty-two of eight cranes", of_cranes(|d| d % 8), 8),
+    for (name, survey, cranes, entries) in [
+        ("thirty-two of one crane", of_cranes(|_| 7), 1, 3),
+        ("thirty-two of eight cranes", of_cranes(|d| d % 8), 8, 2),
     ] {
         let asked = |threshold| Asked {
             survey: &survey,
             threshold,
-            limit: 2,
+            limit: 3,
         };
         list.assert_entry(&asked(1), &code("01151"), cranes, None);
+        list.assert_example(&asked(1), &code("01151 12151"), 0);
+        list.assert_example(&asked(1), &code("01151 12151 20151"), 31);
         assert!(list.entries(&asked(cranes as u16 + 1)).is_empty(), "{name}");
-        let entries = list.put_catalogue(name, &asked(cranes as u16));
-        assert_eq!(entries, 2, "{name}");
+        let listed = list.put_catalogue(name, &asked(cranes as u16));
+        assert_eq!(listed, entries, "{name}");
     }
 }
 

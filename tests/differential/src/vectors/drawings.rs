@@ -2,6 +2,7 @@
 use super::checks::Asked;
 use super::notation::{code, drawing, map, survey};
 use super::{Call, List};
+use crate::catalogue::ENTRY;
 
 /// Name, device kinds, cables, least code.
 const CODED: &[(&str, &str, &str, &str)] = &[
@@ -56,8 +57,13 @@ pub fn put(list: &mut List) {
     };
     list.put("D12", Call::CheckSurvey(&survey));
     assert_eq!(list.put_catalogue("D12", &d12), 3);
-    for (least, support) in [("01151", 2), ("01151 12151", 2), ("01151 12151 20151", 1)] {
+    for (least, support, example) in [
+        ("01151", 2, 0),
+        ("01151 12151", 2, 0),
+        ("01151 12151 20151", 1, 1),
+    ] {
         list.assert_entry(&d12, &code(least), support, None);
+        list.assert_example(&d12, &code(least), example);
     }
     let frequent = Asked {
         threshold: 2,
@@ -66,6 +72,6 @@ pub fn put(list: &mut List) {
     assert_eq!(list.put_catalogue("D12 with s 2", &frequent), 2);
     let single = Asked { limit: 1, ..d12 };
     assert_eq!(list.put_catalogue("D12 with L 1", &single), 1);
-    list.put("D12", Call::UsualCatalogue(&survey, 2 * 42 + 2));
+    list.put("D12", Call::UsualCatalogue(&survey, 2 * ENTRY + 2));
     list.put_fetches("D12", &survey, [0, 1, 2]);
 }

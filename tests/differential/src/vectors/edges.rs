@@ -248,17 +248,18 @@ fn put_lent(list: &mut List) {
             assert_eq!(answer.refused.number, refused(3, lent));
         }
     }
-    for lent in [0, 42, 125, 126] {
+    // Of three entries and of two; without examples 126 and 84 were enough.
+    for lent in [0, 43, 126, 128, 129] {
         let call = Call::WriteCatalogue(&d12, 1, 4, lent);
         let answer = list.put(&format!("D12, {lent} bytes lent"), call);
-        assert_eq!(answer.refused.number, refused(126, lent));
+        assert_eq!(answer.refused.number, refused(3 * ENTRY, lent));
     }
-    for lent in [83, 84] {
+    for lent in [84, 85, 86] {
         let answer = list.put(
             &format!("D12, {lent} bytes lent"),
             Call::UsualCatalogue(&d12, lent),
         );
-        assert_eq!(answer.refused.number, refused(84, lent));
+        assert_eq!(answer.refused.number, refused(2 * ENTRY, lent));
     }
     put_usual_limit(list);
     // Nothing is frequent, so no room is too little.

@@ -1,7 +1,7 @@
 //! As large as drawings and surveys get: ten devices and twenty cables, kinds up to 255, thirty-two drawings.
 use super::checks::Asked;
 use super::{Call, List};
-use crate::catalogue::each_its_crane;
+use crate::catalogue::{each_its_crane, ENTRY};
 use crate::code;
 use crate::drawing::{Cable, Drawing, RECORD};
 use crate::generate::{self, plain, Shape};
@@ -140,5 +140,5 @@ fn put_thirty_two(list: &mut List, random: &mut Random) {
     list.put_fetches("thirty-two", &survey, [31, 32, 0]);
     list.put_catalogue("thirty-two, s 2, L 3", &asked(&survey, 2, 3));
     list.put_catalogue("thirty-two, s 16, L 8", &asked(&survey, 16, 8));
-    list.put("thirty-two", Call::UsualCatalogue(&survey, 42));
+    list.put("thirty-two", Call::UsualCatalogue(&survey, ENTRY));
 }

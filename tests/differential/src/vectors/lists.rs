@@ -3,15 +3,15 @@
 use super::checks::{Asked, Named, NAMED};
 use super::notation::{code, drawing, sheet, survey};
 use super::List;
-use crate::catalogue::{self, ENTRY};
+use crate::catalogue::{self, ENTRY, EXAMPLE_AT, SUPPORT_AT};
 use crate::cranes::OLD_RECORD;
 use crate::generate::plain;
 use crate::refused::Refused;
 
-const YES: &str = "yes";
-const NO: &str = "no";
+pub(super) const YES: &str = "yes";
+pub(super) const NO: &str = "no";
 
-fn asked(survey: &[u8], threshold: u16, limit: u16) -> Asked<'_> {
+pub(super) fn asked(survey: &[u8], threshold: u16, limit: u16) -> Asked<'_> {
     Asked {
         survey,
         threshold,
@@ -21,44 +21,48 @@ fn asked(survey: &[u8], threshold: u16, limit: u16) -> Asked<'_> {
 
 impl List {
     /// The list that a catalogue is.
-    fn right(&mut self, asked: &Asked) -> Vec<u8> {
+    pub(super) fn right(&mut self, asked: &Asked) -> Vec<u8> {
         catalogue::bytes(&self.entries(asked))
     }
 }
 
-/// The 42 bytes of an entry: its support and its code.
-fn entry(support: u8, text: &str) -> Vec<u8> {
+/// The bytes of an entry: its support, its code and its example.
+pub(super) fn entry(support: u8, text: &str, example: u8) -> Vec<u8> {
     let code = code(text);
     let mut entry = vec![(code.len() / 5) as u8, support];
     entry.extend(code);
-    entry.resize(ENTRY, 0);
+    entry.resize(EXAMPLE_AT, 0);
+    entry.push(example);
     entry
 }
 
 /// The same but for one byte.
-fn changed(bytes: &[u8], at: usize, value: u8) -> Vec<u8> {
+pub(super) fn changed(bytes: &[u8], at: usize, value: u8) -> Vec<u8> {
     let mut changed = bytes.to_vec();
     assert_ne!(changed[at], value);
     changed[at] = value;
     changed
 }
 
-fn d3() -> Vec<u8> {
+pub(super) fn d3() -> Vec<u8> {
     drawing("111", "015 125")
 }
 
-fn d4() -> Vec<u8> {
+pub(super) fn d4() -> Vec<u8> {
     drawing("111", "015 125 205")
 }
 
-fn d12() -> Vec<u8> {
+pub(super) fn d12() -> Vec<u8> {
     survey(&[&d3(), &d4()])
 }
 
 /// The entries of D12 at s = 1 and L = 4.
 fn d12_entries() -> [Vec<u8>; 3] {
-    [(2, "01151"), (2, "01151 12151"), (1, "01151 12151 20151")]
-        .map(|(support, code)| entry(support, code))
+    [
+        entry(2, "01151", 0),
+        entry(2, "01151 12151", 0),
+        entry(1, "01151 12151 20151", 1),
+    ]
 }
 
 /// D12's list with one thing changed.
@@ -70,14 +74,14 @@ fn put_changed(list: &mut List) {
     assert_eq!(list.right(&asked), right);
     list.put_check("list of D12", &asked, &right, YES);
     for (name, wrong) in [
-        ("first support 1", changed(&right, 1, 1)),
-        ("last support 2", changed(&right, 85, 2)),
-        ("support 0", changed(&right, 43, 0)),
-        ("a cable less told", changed(&right, 84, 2)),
-        ("another kind", changed(&right, 46, 2)),
-        ("last byte not zero", changed(&right, 125, 1)),
+        ("first support 1", changed(&right, SUPPORT_AT, 1)),
+        ("last support 2", changed(&right, 2 * ENTRY + SUPPORT_AT, 2)),
+        ("support 0", changed(&right, ENTRY + SUPPORT_AT, 0)),
+        ("a cable less told", changed(&right, 2 * ENTRY, 2)),
+        ("another kind", changed(&right, ENTRY + 4, 2)),
+        ("last padding not zero", changed(&right, 3 * ENTRY - 2, 1)),
         ("byte 7 not zero", changed(&right, 7, 1)),
-        ("zeros throughout", vec![0; 126]),
+        ("zeros throughout", vec![0; 3 * ENTRY]),
         (
             "first two exchanged",
             [&path[..], &cable, &triangle].concat(),
@@ -88,7 +92,7 @@ fn put_changed(list: &mut List) {
         ),
         (
             "another code of D3",
-            [&cable[..], &entry(2, "01151 02151"), &triangle].concat(),
+            [&cable[..], &entry(2, "01151 02151", 0), &triangle].concat(),
         ),
         ("last left out", [&cable[..], &path].concat()),
         ("first left out", [&path[..], &triangle].concat()),
@@ -97,7 +101,7 @@ fn put_changed(list: &mut List) {
         ("last twice", [&right[..], &triangle].concat()),
         ("first twice", [&cable[..], &right].concat()),
         ("zeros behind", [&right[..], &[0; ENTRY]].concat()),
-        ("D1 behind", [&right[..], &entry(1, "01172")].concat()),
+        ("D1 behind", [&right[..], &entry(1, "01172", 0)].concat()),
         // D12 has ten connected sets of cables, so that no catalogue of it has eleven entries.
         (
             "more than any catalogue",
@@ -108,9 +112,9 @@ fn put_changed(list: &mut List) {
     }
     for (name, wrong) in [
         ("one byte more", [&right[..], &[0]].concat()),
-        ("one byte less", right[..125].to_vec()),
-        ("41 bytes", right[..41].to_vec()),
-        ("43 bytes", [&right[..ENTRY], &[2]].concat()),
+        ("one byte less", right[..3 * ENTRY - 1].to_vec()),
+        ("42 bytes", right[..42].to_vec()),
+        ("44 bytes", right[..44].to_vec()),
     ] {
         list.put_refused_list(&format!("list of D12, {name}"), &asked, &wrong, 18);
     }
@@ -136,7 +140,7 @@ fn put_others(list: &mut List) {
         list.put_check(&name, &asked(&d12, s, limit), given, wanted);
     }
     let d1 = drawing("21", "017");
-    list.put_check("D1", &asked(&d1, 1, 4), &entry(1, "01172"), YES);
+    list.put_check("D1", &asked(&d1, 1, 4), &entry(1, "01172", 0), YES);
     list.put_check("D1, rubbish", &asked(&d1, 1, 4), &[77; ENTRY], NO);
     list.put_check("D1, list of D12", &asked(&d1, 1, 4), &of_all, NO);
     list.put_check("D4, list of D12", &asked(&d4(), 1, 4), &of_all, NO);
@@ -174,13 +178,13 @@ fn put_empty(list: &mut List) {
         assert!(list.right(&asked).is_empty());
         list.put_check(name, &asked, &[], YES);
         list.put_check(&format!("{name}, zeros"), &asked, &[0; ENTRY], NO);
-        let code = entry(1, "00707");
+        let code = entry(1, "00707", 0);
         list.put_check(&format!("{name}, a code"), &asked, &code, NO);
         list.put_refused_list(name, &asked, &[0; ENTRY - 1], 18);
     }
     let among = survey(&[&seven, &drawing("11", "015")]);
     let asked = asked(&among, 1, 4);
-    list.put_check("a cable among lone", &asked, &entry(1, "01151"), YES);
+    list.put_check("a cable among lone", &asked, &entry(1, "01151", 1), YES);
     list.put_check("a cable among lone, none", &asked, &[], NO);
     list.put_refused_list("a cable among lone", &asked, &[1, 1, 0], 18);
 }
@@ -192,10 +196,10 @@ fn put_largest(list: &mut List) {
     let right = list.right(&eight);
     assert_eq!(right.len(), 8 * ENTRY);
     list.put_check("path of 8 cables", &eight, &right, YES);
-    let last = changed(&right, 8 * ENTRY - 1, 2);
-    list.put_check("path of 8 cables, last byte", &eight, &last, NO);
+    let last = changed(&right, 8 * ENTRY - 2, 2);
+    list.put_check("path of 8 cables, last kind", &eight, &last, NO);
     let survey: Vec<u8> = (0..32).flat_map(|crane| sheet(&d3(), crane)).collect();
-    let right = [entry(32, "01151"), entry(32, "01151 12151")].concat();
+    let right = [entry(32, "01151", 0), entry(32, "01151 12151", 0)].concat();
     list.put_check("thirty-two times D3", &asked(&survey, 32, 8), &right, YES);
 }
 
@@ -213,8 +217,8 @@ fn put_named(list: &mut List, named: Named) {
         ("D12, last", &d12, last.clone(), NO),
         ("D12, none", &d12, vec![], NO),
         ("D12, exchanged", &d12, [&last, &two[..ENTRY]].concat(), NO),
-        ("D12, support 1", &d12, changed(&two, 43, 1), NO),
-        ("D12, last byte", &d12, changed(&two, 83, 1), NO),
+        ("D12, support 1", &d12, changed(&two, 44, 1), NO),
+        ("D12, last padding", &d12, changed(&two, 84, 1), NO),
         ("D12, another kind", &d12, changed(&two, 4, 2), NO),
         ("D12, last twice", &d12, [&two[..], &last].concat(), NO),
         ("D12, zeros", &d12, [&two[..], &[0; ENTRY]].concat(), NO),
@@ -232,7 +236,7 @@ fn put_named(list: &mut List, named: Named) {
     }
     for (name, survey, given) in [
         ("D12, a byte more", &d12, [&two[..], &[0]].concat()),
-        ("D12, a byte less", &d12, two[..83].to_vec()),
+        ("D12, a byte less", &d12, two[..85].to_vec()),
         ("lone, a byte", &seven, vec![0]),
         ("D3 among lone, a byte", &among, vec![1]),
     ] {
@@ -242,7 +246,7 @@ fn put_named(list: &mut List, named: Named) {
 }
 
 /// A path or a ring on two cranes has a pattern for each number of cables: the usual list has those of up to six, the former one those of up to four.
-/// Each list of so many entries is checked at both settings.
+/// Each list of four entries or more is checked at both settings.
 fn put_more_cables(list: &mut List) {
     let five = plain(&[0, 1, 2, 3, 4].map(|v| (v, v + 1)));
     let ring = plain(&[0, 1, 2, 3, 4, 5].map(|v| (v, (v + 1) % 6)));
@@ -256,7 +260,7 @@ fn put_more_cables(list: &mut List) {
         let survey = survey(&[&record, &record]);
         let all = list.right(&asked(&survey, 2, most));
         assert_eq!(all.len(), usize::from(most) * ENTRY);
-        for entries in 3..=usize::from(most) {
+        for entries in 4..=usize::from(most) {
             let name = format!("{name}, list of {entries}");
             let given = &all[..entries * ENTRY];
             for (named, right) in NAMED.into_iter().zip([usual, former]) {

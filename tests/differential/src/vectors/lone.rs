@@ -4,6 +4,7 @@ use super::checks::Asked;
 use super::notation::{code, drawing, map, survey};
 use super::{Call, List};
 use crate::answers;
+use crate::catalogue::{Entry, ENTRY};
 use crate::drawing::RECORD;
 
 /// A name, a drawing of one device and its code.
@@ -122,7 +123,7 @@ fn put_lent(list: &mut List) {
     }
 }
 
-/// Lone devices count as drawings and add no entry.
+/// Lone devices count as drawings and add no entry. The drawings among them are 1 and 4, as examples too.
 fn put_surveys(list: &mut List) {
     let (one, seven) = (drawing("1", ""), drawing("7", ""));
     let (d3, d4) = (drawing("111", "015 125"), drawing("111", "015 125 205"));
@@ -136,14 +137,22 @@ fn put_surveys(list: &mut List) {
             threshold,
             limit: 4,
         });
-        assert_eq!(list.entries(&among), list.entries(&without));
+        let numbered = |entry: Entry| Entry {
+            example: [1, 4][entry.example],
+            ..entry
+        };
+        let due = list.entries(&without).into_iter().map(numbered);
+        assert!(due.eq(list.entries(&among)));
         let name = format!("D12 among lone, s {threshold}");
         assert_eq!(list.put_catalogue(&name, &among), entries, "{name}");
     }
-    list.put("D12 among lone", Call::UsualCatalogue(&among, 2 * 42 + 2));
     list.put(
-        "D12 among lone, 83 bytes lent",
-        Call::UsualCatalogue(&among, 83),
+        "D12 among lone",
+        Call::UsualCatalogue(&among, 2 * ENTRY + 2),
+    );
+    list.put(
+        "D12 among lone, 85 bytes lent",
+        Call::UsualCatalogue(&among, 85),
     );
     list.put_fetches("D12 among lone", &among, [2, 5, 6]);
 

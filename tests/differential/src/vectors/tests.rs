@@ -4,6 +4,7 @@ use crate::agreement;
 use crate::answers::{self, Answer, FIRST, LATER, SECOND};
 use crate::cranes::*;
 use crate::drawing::{CRANE_AT, RECORD};
+use crate::examples;
 use crate::lists;
 use crate::lone::*;
 use crate::shims::{Came, Given, SHIMS};
@@ -305,6 +306,22 @@ fn every_outcome_beside_agreements_is_listed() {
         missing.is_empty() && further.is_empty(),
         "{missing:?} {further:?}"
     );
+}
+
+/// Beside examples of every kind, in the catalogue at any settings; in the usual one beside such as are above 0 and not those of shorter codes; in a
+/// book beside the one that it has.
+#[test]
+fn every_outcome_beside_examples_is_listed() {
+    let seen = |call, kind| (call, Seen::Answer("entries", kind));
+    let of_catalogues = examples::kinds().map(|kind| seen("write_catalogue", kind));
+    let mut wanted: BTreeSet<_> = of_catalogues.collect();
+    for kind in [examples::ABOVE_0, examples::AFTER_SHORTER, examples::OVER] {
+        wanted.insert(seen("usual_catalogue", kind));
+    }
+    wanted.insert(seen("book", examples::OVER));
+    let list = list();
+    let missing: Vec<_> = wanted.difference(&list.beside_examples).collect();
+    assert!(missing.is_empty(), "{missing:?}");
 }
 
 /// The number that a spoiled library returns in place of the answer.

@@ -1,9 +1,11 @@
 -- `text::whole_text` meets its contract: the lent bytes have room for every text. Assumes nothing.
 use mathlib.Core.Path.{_≡_}
-use Prim.Native.Nat.{_≤_}
+use Prim.Native.Nat.{_+_, _*_, _≤_}
 use lib.ListN.{length}
 use borrow.Author.Needs.{needs}
+use Rattle.text_lines.specs.Texts.{longest-line}
 use Rattle.printing.specs.ListTextLaws.{text-never-short, text-whole}
+use Rattle.catalogue.specs.SurveyText.{program-room}
 use Rattle.catalogue.proofs.text.whole_text.Statement.{statement}
 use Rattle.catalogue.proofs.text.whole_text.Tie as tie
 
@@ -20,16 +22,16 @@ returns : tie.Need-returns
 returns c =
     let u = c .before .before .before .usual-text in
     let a = c .before .before .before .before .before .before .before .args in
-    let entries : length (a .entries .now) ≡ 65520 = search needs in
-    let text : 255880 ≤ length (a .text .now) = search needs in
+    let entries : length (a .entries .now) ≡ program-room = search needs in
+    let text : longest-line * 1560 + 40 ≤ length (a .text .now) = search needs in
     text-whole (rw entries at (u .ensures)) text (c .before .n .given .0 .0) (c .before .n .given .1)
 
 returns-2 : tie.Need-returns-2
 returns-2 c =
     let u = c .before .before .usual-text in
     let a = c .before .before .before .before .before .before .args in
-    let entries : length (a .entries .now) ≡ 65520 = search needs in
-    let text : 255880 ≤ length (a .text .now) = search needs in
+    let entries : length (a .entries .now) ≡ program-room = search needs in
+    let text : longest-line * 1560 + 40 ≤ length (a .text .now) = search needs in
     absurd (text-never-short (rw entries at (u .ensures)) text (c .enum-told .given .1))
 
 pub whole-text-spec : {M : Type 1} → statement M

@@ -3,6 +3,7 @@ use mathlib.Core.Path.{_≡_, refl, subst}
 use Prim.Native.Nat.{ℕ, _≤_, _-_, _+_, _*_}
 use lib.ListN.{length}
 use borrow.Author.Needs.{needs}
+use Rattle.growth.specs.Sizes.{entry-size}
 use Rattle.growth.specs.Entries.{Writes-on}
 use Rattle.growth.specs.EntryLaws.{writes-none, writes-record}
 use Rattle.entries.proofs.entry.copy_records.Statement.{statement}
@@ -10,7 +11,7 @@ use Rattle.entries.proofs.entry.copy_records.Tie as tie
 
 abbrev Inv-loop : tie.InvT-loop
 Inv-loop code cables output₀ end i₀ output i =
-    (2 ≤ i) × (i ≤ end) × (end ≡ 2 + 5 * cables) × (length output ≡ 42) × Writes-on code cables 2 i output₀ output
+    (2 ≤ i) × (i ≤ end) × (end ≡ 2 + 5 * cables) × (length output ≡ entry-size) × Writes-on code cables 2 i output₀ output
 
 abbrev μ-loop : tie.MeasureT-loop
 μ-loop code cables output₀ end i₀ output i = end - i

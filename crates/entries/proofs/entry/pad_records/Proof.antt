@@ -5,6 +5,7 @@ use Prim.Native.Nat.{ℕ, _≤_, _-_, _+_, _*_}
 use native.Mathlib.Omega.{arith}
 use lib.ListN.{length}
 use borrow.Author.Needs.{needs}
+use Rattle.growth.specs.Sizes.{entry-size}
 use Rattle.growth.specs.Entries.{Writes-on}
 use Rattle.growth.specs.EntryLaws.{writes-none, writes-zero}
 use Rattle.entries.proofs.entry.pad_records.Statement.{statement}
@@ -12,7 +13,7 @@ use Rattle.entries.proofs.entry.pad_records.Tie as tie
 
 abbrev Inv-loop : tie.InvT-loop
 Inv-loop cables output₀ end i₀ output i =
-    (2 + 5 * cables ≤ i) × (i ≤ 42) × (length output ≡ 42)
+    (2 + 5 * cables ≤ i) × (i ≤ 42) × (length output ≡ entry-size)
     × ((code : List ℕ) → length code ≡ 100 → Writes-on code cables (2 + 5 * cables) i output₀ output)
 
 abbrev μ-loop : tie.MeasureT-loop

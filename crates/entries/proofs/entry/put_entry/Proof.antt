@@ -5,6 +5,7 @@ use Prim.Native.Nat.{ℕ}
 use borrow.Author.Needs.{needs}
 use Rattle.laws.specs.PutRecords.{put-record}
 use Rattle.laws.specs.PutRecordLaws.{put-part}
+use Rattle.growth.specs.Sizes.{entry-size}
 use Rattle.entries.proofs.entry.put_entry.Statement.{statement}
 use Rattle.entries.proofs.entry.put_entry.Tie as tie
 
@@ -33,8 +34,8 @@ returns : tie.Need-returns
 returns c =
     let a = c .before .before .before .before .before .args in
     let w = c .before .before .write-entry in
-    put-part 42 (a .k) (w .last .1 .1 .1 .0) (a .output .now)
-    ∙ ap (λ (r : List ℕ). put-record 42 (a .k) r (a .output .now)) (w .ensures)
+    put-part entry-size (a .k) (w .last .1 .1 .0) (a .output .now)
+    ∙ ap (λ (r : List ℕ). put-record entry-size (a .k) r (a .output .now)) (w .ensures)
 
 pub put-entry-spec : {M : Type 1} → statement M
 put-entry-spec =

@@ -1,10 +1,12 @@
--- `entry::write_entry` meets its contract: the two numbers, the records, then zeros. Assumes nothing.
+-- `entry::write_entry` meets its contract: two numbers, the records, zeros, then the example. Assumes nothing.
 use mathlib.Core.Path.{sym, _∙_}
 use Prim.Native.Nat.{_+_, _*_}
 use native.Mathlib.Omega.{arith}
+use lib.ListN.{length-set}
 use borrow.Author.Needs.{needs}
-use Rattle.growth.specs.Entries.{told, Bytes-written}
+use Rattle.growth.specs.Entries.{Bytes-written}
 use Rattle.growth.specs.EntryLaws.{written-start, written-end}
+use Rattle.entries.specs.Heads.{head-figures, headed}
 use Rattle.entries.proofs.entry.write_entry.Statement.{statement}
 use Rattle.entries.proofs.entry.write_entry.Tie as tie
 
@@ -26,38 +28,48 @@ copy-records-requires c κs = search needs
 -- the records are written
 copied :
     (c : tie.After-copy-records)
-    → let a = c .before .before .before .args in
-    Bytes-written (told (a .code .now) (a .cables) (a .support)) (2 + 5 * a .cables) (c .copy-records .last .1 .1 .0)
+    → let a = c .before .before .before .before .before .args in
+    Bytes-written (headed (a .code .now) (a .head)) (2 + 5 * a .head .cables) (c .copy-records .last .1 .1 .0)
 copied c =
-    let s = c .before .before .before in
+    let s = c .before .before .before .before .before in
     let a = s .args in
-    c .copy-records .ensures .on (a .support)
-    (written-start (a .code .now) (a .cables) (a .support) (s .pre .0) (s .pre .2) (a .output .now) (s .pre .1))
+    c .copy-records .ensures .on (head-figures (a .head))
+    (written-start (a .code .now) (a .head .cables) (head-figures (a .head)) (s .pre .0 .0) (s .pre .0 .1) (a .output .now) (s .pre .1))
 
 pad-records-requires : tie.Need-pad-records-requires
 pad-records-requires c κs =
     let k = c .before .before .before in
-    (copied k .size, k .before .before .before .pre .2)
+    (copied k .size, k .before .before .before .before .before .pre .0 .1)
 
 -- and the zeros
 padded :
-    (c : tie.After-slice-known3)
+    (c : tie.After-pad-records)
     → let a = c .before .before .before .before .before .before .before .before .before .args in
-    Bytes-written (told (a .code .now) (a .cables) (a .support)) 42 (c .before .before .pad-records .last .1 .0)
+    Bytes-written (headed (a .code .now) (a .head)) 42 (c .pad-records .last .1 .0)
 padded c =
-    let k = c .before .before .before .before .before .before in
-    let s = k .before .before .before in
+    let k = c .before .before .before .before in
+    let s = k .before .before .before .before .before in
     let a = s .args in
-    c .before .before .pad-records .ensures .on (a .code .now) (s .pre .0) .on (a .support) (copied k)
+    c .pad-records .ensures .on (a .code .now) (s .pre .0 .0) .on (head-figures (a .head)) (copied k)
+
+cast-output-3 : tie.Need-cast-output-3
+cast-output-3 c = search needs
+
+slice-write-output-3 : tie.Need-slice-write-output-3
+slice-write-output-3 c = omega (arith, padded (c .before .before .before) .size)
 
 same-length : tie.Need-same-length
-same-length c = padded c .size ∙ sym (c .before .before .before .before .before .before .before .before .before .pre .1)
+same-length c =
+    let p = c .before .before .before in
+    length-set (p .pad-records .last .1 .0) 42 _ ∙ padded p .size
+    ∙ sym (p .before .before .before .before .before .before .before .before .before .pre .1)
 
 returns : tie.Need-returns
 returns c =
-    let s = c .before .before .before .before .before .before .before .before .before in
+    let p = c .before .before .before in
+    let s = p .before .before .before .before .before .before .before .before .before in
     let a = s .args in
-    written-end (a .code .now) (a .cables) (a .support) (s .pre .0) (s .pre .2) 42 _ (omega arith) (padded c)
+    written-end (a .code .now) (a .head .cables) (head-figures (a .head)) (s .pre .0 .0) (s .pre .0 .1) _ (padded p)
 
 pub write-entry-spec : {M : Type 1} → statement M
 write-entry-spec =
@@ -69,5 +81,7 @@ write-entry-spec =
     slice-write-output-2
     copy-records-requires
     pad-records-requires
+    cast-output-3
+    slice-write-output-3
     same-length
     returns)

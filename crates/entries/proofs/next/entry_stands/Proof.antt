@@ -4,6 +4,7 @@ use native.Mathlib.Omega.{arith}
 use borrow.Author.Needs.{needs}
 use Rattle.growth.specs.EntryLaws.{told-size}
 use Rattle.growth.specs.PageLaws.{entry-short, entry-held}
+use Rattle.entries.specs.Heads.{head-figures}
 use Rattle.entries.proofs.next.entry_stands.Statement.{statement}
 use Rattle.entries.proofs.next.entry_stands.Tie as tie
 
@@ -17,7 +18,7 @@ returns : tie.Need-returns
 returns c =
     let s = c .before .before in
     let a = s .args in (
-      entry-short _ (a .k) _ (told-size (a .code .now) (a .head .cables) (a .head .support) (s .pre .0) (s .pre .2)) (s .pre .1)
+      entry-short _ (a .k) _ (told-size (a .code .now) (a .head .cables) (head-figures (a .head)) (s .pre .0 .0) (s .pre .0 .1)) (s .pre .1)
           (omega (arith, c .if1 .taken, s .pre .1)),
       refl,
     )
@@ -51,7 +52,7 @@ returns-2 c =
     let e = c .before .before .before .before .before .before in
     let s = e .before .before in
     let a = s .args in
-    entry-held _ (a .k) _ (told-size (a .code .now) (a .head .cables) (a .head .support) (s .pre .0) (s .pre .2))
+    entry-held _ (a .k) _ (told-size (a .code .now) (a .head .cables) (head-figures (a .head)) (s .pre .0 .0) (s .pre .0 .1))
     (omega (arith, e .if1 .left, s .pre .1)) (search needs) _
     (rw (c .before .before .before .before .write-entry .ensures) at (c .same-bytes .ensures))
 

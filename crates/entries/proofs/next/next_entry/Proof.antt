@@ -6,7 +6,7 @@ use Rattle.entries.proofs.next.next_entry.Tie as tie
 entry-stands-requires : tie.Need-entry-stands-requires
 entry-stands-requires c κs =
     let p = c .before .before .before .pre in
-    (p .0, rw (c .if1 .taken) at (p .1), p .2, p .3)
+    (p .0, rw (c .if1 .taken) at (p .1))
 
 returns : tie.Need-returns
 returns c = rw (c .before .if1 .taken) (c .entry-stands .ensures)
@@ -14,7 +14,7 @@ returns c = rw (c .before .if1 .taken) (c .entry-stands .ensures)
 write-next-requires : tie.Need-write-next-requires
 write-next-requires c κs =
     let p = c .before .before .before .before .pre in
-    (p .0, rw (c .before .if1 .left) at (p .1), p .2, p .3)
+    (p .0, rw (c .before .if1 .left) at (p .1))
 
 same-length : tie.Need-same-length
 same-length c = search needs

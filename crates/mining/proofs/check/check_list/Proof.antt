@@ -4,6 +4,7 @@ use Prim.Native.Nat.{_%_}
 use lib.ListN.{length}
 use borrow.Author.Needs.{needs}
 use Rattle.graphs.specs.Survey.{survey-refusal}
+use Rattle.growth.specs.Sizes.{entry-size}
 use Rattle.growth.specs.Settings.{accepted-settings}
 use Rattle.mining.specs.ListCheckLaws.{check-turned-back, given-fine, check-yes, check-no}
 use Rattle.mining.proofs.check.check_list.Statement.{statement}
@@ -28,7 +29,7 @@ enum-told c = search needs
 fine :
     (c : tie.After-enum-told)
     → let a = c .before .before .before .before .before .args in
-    (survey-refusal (a .survey .now) (a .threshold) (a .limit) .number ≡ 0) × (length (a .list .now) % 42 ≡ 0)
+    (survey-refusal (a .survey .now) (a .threshold) (a .limit) .number ≡ 0) × (length (a .list .now) % entry-size ≡ 0)
 fine c =
     let a = c .before .before .before .before .before .args in
     given-fine (a .survey .now) (a .threshold) (a .limit) (a .list .now) (c .before .before .check-given .ensures) (c .enum-told .given .1)

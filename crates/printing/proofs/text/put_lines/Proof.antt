@@ -6,6 +6,7 @@ use lib.ListN.{length}
 use borrow.Author.Needs.{needs}
 use Rattle.laws.specs.Lists.{concat}
 use Rattle.laws.specs.Rows.{rows}
+use Rattle.growth.specs.Sizes.{entry-size}
 use Rattle.text_lines.specs.Texts.{lines, first-entries}
 use Rattle.text_lines.specs.TextLaws.{part-row, lines-more}
 use Rattle.text_lines.specs.Writing.{Wrote}
@@ -55,7 +56,7 @@ loop-again c =
     let entries = c .before .before .before .before .before .before .before .before .before .args .entries .now in (
       search needs,
       e .kept .0 ∙ l .inv .1,
-      wrote-as (rw (part-row 42 0 (l .k) entries (42 * l .k) (omega arith)) (lines-more (l .k) entries))
+      wrote-as (rw (part-row entry-size 0 (l .k) entries (entry-size * l .k) (omega arith)) (lines-more (l .k) entries))
           (wrote-then (l .inv .2) (e .ensures)),
     )
 

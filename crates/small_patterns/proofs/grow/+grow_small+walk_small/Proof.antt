@@ -7,8 +7,9 @@ use Prim.Native.Nat.{ℕ, _*_, _-_, _<_}
 use native.Mathlib.Omega.{arith}
 use borrow.Author.Needs.{needs}
 use borrow.Author.Tests.{not-true, not-false}
-use Rattle.codes.specs.Code.{Rec, recs-in}
-use Rattle.growth.specs.Catalogue.{entry, entry-bytes}
+use Rattle.codes.specs.Code.{Rec}
+use Rattle.growth.specs.Catalogue.{figures}
+use Rattle.growth.specs.Entries.{told}
 use Rattle.growth.specs.Page.{Entry-handed}
 use Rattle.books.specs.SmallRecords.{next-count}
 use Rattle.books.specs.NumberedRecords.{numbered-joins}
@@ -92,12 +93,12 @@ grow-write-next-requires : (t : ℕ) → grow-lts.Need-write-next-requires (grow
 grow-write-next-requires t c κs =
     let n = c .before .before in
     let p = n .before .before .pre .1 in
-    rw (n .new .ensures) (p .held .long, p .room, omega (arith, p .most, p .few .limit), omega arith)
+    rw (n .new .ensures) ((p .held .long, omega (arith, p .most, p .few .limit), omega arith, omega arith), p .room)
 
 -- the code's own entry was handed on
 handed : (t : ℕ) (c : grow-lts.After-write-next (grow-claims t) (grow-at t) grow.Post) (r : Bool) → c .write-next .result ≡ r
     → let s = c .before .before .before .before .before in
-    Entry-handed false (entry-bytes (entry 0 (recs-in (s .args .cables) (s .args .code .now)))) (s .args .count) (s .args .output .now) r
+    Entry-handed false (told (s .args .code .now) (s .args .cables) (figures 0 0)) (s .args .count) (s .args .output .now) r
     (c .write-next .last .1 .1 .1 .0)
 handed t c r e = rw (c .before .before .before .new .ensures, e) at (c .write-next .ensures)
 
@@ -112,7 +113,7 @@ grow-same-length t c = grow-returns t c .size
 -- and stands there
 stands : (t : ℕ) (c : grow-lts.Else1 (grow-claims t) (grow-at t) grow.Post)
     → let s = c .before .before .before .before .before .before .before .before in
-    Entry-handed false (entry-bytes (entry 0 (recs-in (s .args .cables) (s .args .code .now)))) (s .args .count) (s .args .output .now) true
+    Entry-handed false (told (s .args .code .now) (s .args .cables) (figures 0 0)) (s .args .count) (s .args .output .now) true
     (c .before .before .before .write-next .last .1 .1 .1 .0)
 stands t c = handed t (c .before .before .before) true (not-false _ (c .if1 .left))
 

@@ -1,5 +1,8 @@
 -- `take::take_up` meets its contract. Assumes nothing.
 use mathlib.Core.Path.{refl}
+use Prim.Native.Nat.{_%_, _^_}
+use native.Mathlib.Omega.{arith}
+use lib.Count.{trailing-le}
 use borrow.Author.Needs.{needs}
 use borrow.Author.Tests.{not-true, not-false}
 use Rattle.taking.specs.TakingLaws.{entry-listed, entry-stopped}
@@ -19,13 +22,20 @@ returns c =
     let v = c .before .least-grown in
     record { not-least = v .ensures .fails (not-true _ (c .if1 .taken)); same = refl }
 
+cast-example : tie.Need-cast-example
+cast-example c = search needs
+
+cast-example-2 : tie.Need-cast-example-2
+cast-example-2 c = omega (arith, trailing-le 32 (c .before .before .before .before .args .cell % (2 ^ 32)))
+
 new-requires : tie.Need-new-requires
 new-requires c κs = search needs
 
 next-entry-requires : tie.Need-next-entry-requires
 next-entry-requires c κs =
     let p = c .before .before .before .before .before .before .pre in
-    rw (c .before .new .ensures) (p .front .size, p .out-room, p .most, p .few)
+    let set = c .before .before .before .before .before .before .args .cell % (2 ^ 32) in
+    rw (c .before .new .ensures) ((p .front .size, p .most, p .few, trailing-le 32 set), p .out-room)
 
 same-length : tie.Need-same-length
 same-length c = search needs
@@ -56,6 +66,8 @@ take-up-spec =
     (tie.spec
     least-grown-requires
     returns
+    cast-example
+    cast-example-2
     new-requires
     next-entry-requires
     same-length

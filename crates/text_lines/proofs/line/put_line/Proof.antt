@@ -1,4 +1,4 @@
--- `line::put_line` meets its contract: the support, the records and the line's end. Assumes nothing.
+-- `line::put_line` meets its contract: the support, the example, the records and the line's end. Assumes nothing.
 use native.Mathlib.Omega.{arith}
 use borrow.Author.Needs.{needs}
 use Rattle.text_lines.specs.Texts.{entry-text, entry-shown}
@@ -24,11 +24,17 @@ cast-put-number c = omega (arith, c .shared-slice-known3 .given 1)
 put-number-requires : tie.Need-put-number-requires
 put-number-requires c κs = search needs
 
+put-byte-requires : tie.Need-put-byte-requires
+put-byte-requires c κs = search needs
+
+put-field-requires : tie.Need-put-field-requires
+put-field-requires c κs = search needs
+
 put-records-requires : tie.Need-put-records-requires
 put-records-requires c κs = search needs
 
-put-byte-requires : tie.Need-put-byte-requires
-put-byte-requires c κs = search needs
+put-byte-requires-2 : tie.Need-put-byte-requires-2
+put-byte-requires-2 c κs = search needs
 
 same-length : tie.Need-same-length
 same-length c = search needs
@@ -36,11 +42,14 @@ same-length c = search needs
 returns : tie.Need-returns
 unfolding entry-text entry-shown
 returns c =
-    let e = c .before .before in
-    let r = e .before .before .before .before in
-    let s = r .before .before .before .before in
-    let cables = s .before .before .before .least .ensures in
-    wrote-then (wrote-then (s .put-number .ensures) (rw cables at (r .put-records .ensures))) (e .put-byte .ensures)
+    let end = c .before .before in
+    let records = end .before .before .before .before in
+    let example = records .before .before .before .before in
+    let blank = example .before .before .before .before in
+    let support = blank .before .before .before .before in
+    let cables = support .before .before .before .least .ensures in
+    let figures = wrote-then (support .put-number .ensures) (wrote-then (blank .put-byte .ensures) (example .put-field .ensures)) in
+    wrote-then (wrote-then figures (rw cables at (records .put-records .ensures))) (end .put-byte2 .ensures)
 
 pub put-line-spec : {M : Type 1} → statement M
 put-line-spec =
@@ -52,7 +61,9 @@ put-line-spec =
     shared-slice-read-put-number
     cast-put-number
     put-number-requires
-    put-records-requires
     put-byte-requires
+    put-field-requires
+    put-records-requires
+    put-byte-requires-2
     same-length
     returns)

@@ -20,7 +20,7 @@ use Rattle.graphs.specs.Survey as surveys
 use Rattle.graphs.specs.Survey.{survey, cranes, length-refusal, bytes-refusal, survey-refusal, containing, count-true, example}
 use Rattle.codes.specs.Code.{Rec, recs-in, kinds-before, rec-before, before}
 use Rattle.codes.specs.SectionCode.{section-of, Section-code, Least-section}
-use Rattle.growth.specs.Sizes.{entry-size}
+use Rattle.growth.specs.Sizes.{example-at, entry-size}
 use Rattle.growth.specs.Catalogue.{Figures, figures, Entry, entry, List-of, Catalogue, entry-bytes, all-bytes, Often-in, figures-of}
 use Rattle.growth.specs.FigureLists.{with-figures}
 use Rattle.books.specs.Book.{Small, unsupported, book-refusal}
@@ -281,7 +281,7 @@ pub record Sheets-alike (xs ys : List ℕ) : Type 0 where
 
 -- ENTRIES of the output, 43 bytes each: number of cables, support, then that many records; byte 42 is the example
 unfoldable pub entry-of : List ℕ → Entry
-entry-of bs = entry (figures (getD bs 1 0) (getD bs 42 0)) (recs-in (getD bs 0 0) (drop 2 bs))
+entry-of bs = entry (figures (getD bs 1 0) (getD bs example-at 0)) (recs-in (getD bs 0 0) (drop 2 bs))
 
 unfoldable pub entry-in : (k : ℕ) → (output : List ℕ) → Entry
 entry-in k z = entry-of (row entry-size k z)

@@ -6,7 +6,7 @@ use Prim.Native.Nat.{ℕ, _+_, _*_}
 use lib.Dec.{ltb}
 use lib.ListN.{length, getD, take}
 use Rattle.codes.specs.Code.{recs-in}
-use Rattle.growth.specs.Sizes.{entry-size}
+use Rattle.growth.specs.Sizes.{example-at, entry-size}
 use Rattle.growth.specs.Catalogue.{Figures, entry, entry-bytes}
 
 -- byte i of the first n, and zero past them
@@ -28,4 +28,4 @@ pub record Writes-on (code : List ℕ) (m i j : ℕ) (out out-now : List ℕ) : 
 
 -- behind the records and up to the example, whatever the code
 pub record Pads (m : ℕ) (out out-now : List ℕ) : Type 0 where
-  pub on : (code : List ℕ) → length code ≡ 100 → Writes-on code m (2 + 5 * m) 42 out out-now
+  pub on : (code : List ℕ) → length code ≡ 100 → Writes-on code m (2 + 5 * m) example-at out out-now

@@ -26,7 +26,7 @@ use Rattle.laws.specs.Lists.{Mem, snoc, concat, map-append}
 use Rattle.laws.specs.Rows.{Sized, concat-length}
 use Rattle.codes.specs.Code.{rec-bytes, recs-in}
 use Rattle.codes.specs.CodeBytes.{rec-bytes-length, rec-bytes-in, recs-in-length, recs-in-bytes}
-use Rattle.growth.specs.Sizes.{entry-size}
+use Rattle.growth.specs.Sizes.{example-at, entry-size}
 use Rattle.growth.specs.Catalogue.{Figures, figures, Entry, entry-bytes, all-bytes}
 use Rattle.growth.specs.Entries.{byte-or-zero, told, Bytes-written, Writes-on}
 use Rattle.laws.specs.PutRecords.{put-record}
@@ -86,14 +86,14 @@ module _ (bs : List ℕ) (m : ℕ) (f : Figures) (room : length bs ≡ 100) (few
       let e : i ≡ suc (suc (i - 2)) = omega arith in
       ap (λ (x : List ℕ). getD x i 0) told-is ∙ ap (λ (k : ℕ). getD (m ∷ f .support ∷ (padded ++ (f .example ∷ []))) k 0) e
 
-  told-at : (i : ℕ) → 2 ≤ i → i < 42 → getD (told bs m f) i 0 ≡ byte-or-zero bs (5 * m) (i - 2)
+  told-at : (i : ℕ) → 2 ≤ i → i < example-at → getD (told bs m f) i 0 ≡ byte-or-zero bs (5 * m) (i - 2)
   told-at i l h =
       behind-two i l ∙ List·getD-append padded (f .example ∷ []) 0 (i - 2) (omega (arith, padded-size))
       ∙ padded-at bs (5 * m) (i - 2) 40 (omega arith) (omega arith) (omega arith)
 
-  told-last : getD (told bs m f) 42 0 ≡ f .example
+  told-last : getD (told bs m f) example-at 0 ≡ f .example
   told-last =
-      behind-two 42 (omega arith) ∙ ap (λ (k : ℕ). getD (padded ++ (f .example ∷ [])) k 0) (omega (arith, padded-size))
+      behind-two example-at (omega arith) ∙ ap (λ (k : ℕ). getD (padded ++ (f .example ∷ [])) k 0) (omega (arith, padded-size))
       ∙ getD-append-add padded (f .example ∷ []) 0 0
 
   -- WHILE IT IS WRITTEN
@@ -119,16 +119,17 @@ module _ (bs : List ℕ) (m : ℕ) (f : Figures) (room : length bs ≡ 100) (few
       }
 
   -- the example is its last byte
-  pub written-end : (out : List ℕ) → Bytes-written (told bs m f) 42 out → set out 42 (f .example) ≡ told bs m f
+  pub written-end : (out : List ℕ) → Bytes-written (told bs m f) example-at out → set out example-at (f .example) ≡ told bs m f
   written-end out w =
-      let t = written-next 42 out (f .example) (omega arith) w (sym told-last) in
-      sym (take-all 43 (set out 42 (f .example)) (omega (arith, t .size))) ∙ t .front ∙ take-all 43 (told bs m f) (omega (arith, told-size))
+      let t = written-next example-at out (f .example) (omega arith) w (sym told-last) in
+      sym (take-all entry-size (set out example-at (f .example)) (omega (arith, t .size))) ∙ t .front
+      ∙ take-all entry-size (told bs m f) (omega (arith, told-size))
 
 -- BYTE BY BYTE, whatever the figures
 pub writes-none : (bs : List ℕ) (m i : ℕ) (out : List ℕ) → Writes-on bs m i i out out
 writes-none bs m i out = record { on = λ f w. w }
 
-module _ (bs : List ℕ) (m : ℕ) (room : length bs ≡ 100) (few : m ≤ 8) (from i : ℕ) (low : 2 ≤ i) (high : i < 42) (before out : List ℕ)
+module _ (bs : List ℕ) (m : ℕ) (room : length bs ≡ 100) (few : m ≤ 8) (from i : ℕ) (low : 2 ≤ i) (high : i < example-at) (before out : List ℕ)
     (w : Writes-on bs m from i before out) where
   writes-byte : (b : ℕ) → b ≡ byte-or-zero bs (5 * m) (i - 2) → Writes-on bs m from (i + 1) before (set out i b)
   writes-byte b e =
@@ -158,10 +159,10 @@ pub entry-cables : (e : Entry) → getD (entry-bytes e) 0 0 ≡ length (e .code)
 unfolding entry-bytes
 entry-cables e = refl
 
-pub entry-figures : (e : Entry) → length (e .code) ≤ 8 → figures (getD (entry-bytes e) 1 0) (getD (entry-bytes e) 42 0) ≡ e .figures
+pub entry-figures : (e : Entry) → length (e .code) ≤ 8 → figures (getD (entry-bytes e) 1 0) (getD (entry-bytes e) example-at 0) ≡ e .figures
 unfolding entry-bytes
 entry-figures e h =
-    let size : 42 ≡ length front + 0 = omega (arith, length-append front last, entry-bytes-length e h) in
+    let size : example-at ≡ length front + 0 = omega (arith, length-append front last, entry-bytes-length e h) in
     ap (figures (e .figures .support)) (ap (λ (k : ℕ). getD (front ++ last) k 0) size ∙ getD-append-add front last 0 0)
   where
     front : List ℕ

@@ -2,7 +2,11 @@
 -- Assumes nothing: these are definitions.
 use Prim.Native.Nat.{ℕ, _+_, _*_}
 
--- `Entry::BYTES`: number of cables, support, 8 records of 5 bytes, example
+-- `Entry::EXAMPLE_AT`: the example stands behind the number of cables, the support and 8 records of 5 bytes: 42
+abbrev pub example-at : ℕ
+example-at = 42
+
+-- `Entry::BYTES`: it is the last byte
 abbrev pub entry-size : ℕ
 entry-size = 43
 

@@ -11,7 +11,7 @@ use lib.Seq.{getD-take, getD-drop}
 use Rattle.laws.specs.Lists.{concat}
 use Rattle.laws.specs.Rows.{rows}
 use Rattle.codes.specs.Code.{rec-in, recs-in}
-use Rattle.growth.specs.Sizes.{entry-size}
+use Rattle.growth.specs.Sizes.{example-at, entry-size}
 use Rattle.records.specs.declared.refusal.Refusal.{Refusal}
 use Rattle.records.specs.Refusals.{number-of, number-small}
 use Rattle.records.specs.declared.catalogued.Catalogued.{Catalogued}
@@ -88,7 +88,7 @@ line-size bs h =
     simp length-append (omega (
       arith,
       byte-digits (getD bs 1 0) (h 1),
-      byte-digits (getD bs 42 0) (h 42),
+      byte-digits (getD bs example-at 0) (h example-at),
       rows-size 5 20 rec-in (λ r. 32 ∷ record-text r) record-size (min (getD bs 0 0) 8) (drop 2 bs) (low-drop 2 bs h),
     ))
 

@@ -11,7 +11,7 @@ use borrow.Author.Tests.{le-leb, lt-leb}
 use Rattle.laws.specs.Lists.{Mem, concat}
 use Rattle.laws.specs.Rows.{row, rows, row-zero, row-tail, rows-concat, concat-length, rows-length}
 use Rattle.codes.specs.Code.{rec-in, recs-in}
-use Rattle.growth.specs.Sizes.{entry-size}
+use Rattle.growth.specs.Sizes.{example-at, entry-size}
 use Rattle.growth.specs.Catalogue.{figures, Entry, entry, entry-bytes, all-bytes}
 use Rattle.growth.specs.EntryLaws.{entry-cables, entry-figures, entry-records, entries-sized}
 use Rattle.text_lines.specs.Texts.{
@@ -72,7 +72,7 @@ module _ (n d : ℕ) where
 -- AN ENTRY OF AT MOST 8 CABLES is shown as it stands in its bytes: support, example, and as many records as its number of cables counts
 pub shown-whole :
     (bs : List ℕ) → getD bs 0 0 ≤ 8
-    → entry-shown bs ≡ entry (figures (getD bs 1 0) (getD bs 42 0)) (recs-in (getD bs 0 0) (drop 2 bs))
+    → entry-shown bs ≡ entry (figures (getD bs 1 0) (getD bs example-at 0)) (recs-in (getD bs 0 0) (drop 2 bs))
 unfolding entry-shown
 shown-whole bs h =
     let few : min (getD bs 0 0) 8 ≡ getD bs 0 0 = omega arith in

@@ -8,7 +8,7 @@ use lib.ListN.{length, getD, drop}
 use Rattle.laws.specs.Lists.{concat}
 use Rattle.laws.specs.Rows.{rows}
 use Rattle.codes.specs.Code.{Rec, recs-in}
-use Rattle.growth.specs.Sizes.{entry-size}
+use Rattle.growth.specs.Sizes.{example-at, entry-size}
 use Rattle.growth.specs.Catalogue.{figures, Entry, entry}
 use Rattle.records.specs.Refusals.{number-of}
 use Rattle.records.specs.Catalogued.{catalogued-count}
@@ -77,7 +77,7 @@ answer-text (Refused r d) es = refusal-text (number-of r) d
 -- ENTRIES SHOWN: what is printed of the bytes of an entry. They have no more than 8 records, so a count of cables above 8
 -- stands for 8: any bytes have a text. An entry of at most 8 cables is shown as it stands there (`shown-whole`)
 unfoldable pub entry-shown : List ℕ → Entry
-entry-shown bs = entry (figures (getD bs 1 0) (getD bs 42 0)) (recs-in (min (getD bs 0 0) 8) (drop 2 bs))
+entry-shown bs = entry (figures (getD bs 1 0) (getD bs example-at 0)) (recs-in (min (getD bs 0 0) 8) (drop 2 bs))
 
 abbrev pub first-entries : (n : ℕ) → List ℕ → List Entry
 first-entries n bs = map entry-shown (rows entry-size n bs)

@@ -5,7 +5,7 @@ use Prim.Native.Nat.{ℕ, _≤_, _-_, _+_, _*_}
 use native.Mathlib.Omega.{arith}
 use lib.ListN.{length}
 use borrow.Author.Needs.{needs}
-use Rattle.growth.specs.Sizes.{entry-size}
+use Rattle.growth.specs.Sizes.{example-at, entry-size}
 use Rattle.growth.specs.Entries.{Writes-on}
 use Rattle.growth.specs.EntryLaws.{writes-none, writes-zero}
 use Rattle.entries.proofs.entry.pad_records.Statement.{statement}
@@ -13,11 +13,11 @@ use Rattle.entries.proofs.entry.pad_records.Tie as tie
 
 abbrev Inv-loop : tie.InvT-loop
 Inv-loop cables output₀ end i₀ output i =
-    (2 + 5 * cables ≤ i) × (i ≤ 42) × (length output ≡ entry-size)
+    (2 + 5 * cables ≤ i) × (i ≤ example-at) × (length output ≡ entry-size)
     × ((code : List ℕ) → length code ≡ 100 → Writes-on code cables (2 + 5 * cables) i output₀ output)
 
 abbrev μ-loop : tie.MeasureT-loop
-μ-loop cables output₀ end i₀ output i = 42 - i
+μ-loop cables output₀ end i₀ output i = example-at - i
 
 mul-end : tie.Need-mul-end Inv-loop μ-loop
 mul-end c = search needs
@@ -59,7 +59,7 @@ returns : tie.Need-returns Inv-loop μ-loop
 returns c =
     let l = c .before .loop in
     let a = c .before .before .args in
-    let e : l .i ≡ 42 = search needs in
+    let e : l .i ≡ example-at = search needs in
     record { on = λ code h. subst (λ (i : ℕ). Writes-on code (a .cables) (2 + 5 * a .cables) i (a .output .now) (l .output)) e (l .inv .3 code h) }
 
 pub pad-records-spec : {M : Type 1} → statement M

@@ -4,6 +4,7 @@ use Prim.Native.Nat.{_+_, _*_}
 use native.Mathlib.Omega.{arith}
 use lib.ListN.{length-set}
 use borrow.Author.Needs.{needs}
+use Rattle.growth.specs.Sizes.{example-at}
 use Rattle.growth.specs.Entries.{Bytes-written}
 use Rattle.growth.specs.EntryLaws.{written-start, written-end}
 use Rattle.entries.specs.Heads.{head-figures, headed}
@@ -45,7 +46,7 @@ pad-records-requires c κs =
 padded :
     (c : tie.After-pad-records)
     → let a = c .before .before .before .before .before .before .before .before .before .args in
-    Bytes-written (headed (a .code .now) (a .head)) 42 (c .pad-records .last .1 .0)
+    Bytes-written (headed (a .code .now) (a .head)) example-at (c .pad-records .last .1 .0)
 padded c =
     let k = c .before .before .before .before in
     let s = k .before .before .before .before .before in
@@ -61,7 +62,7 @@ slice-write-output-3 c = omega (arith, padded (c .before .before .before) .size)
 same-length : tie.Need-same-length
 same-length c =
     let p = c .before .before .before in
-    length-set (p .pad-records .last .1 .0) 42 _ ∙ padded p .size
+    length-set (p .pad-records .last .1 .0) example-at _ ∙ padded p .size
     ∙ sym (p .before .before .before .before .before .before .before .before .before .pre .1)
 
 returns : tie.Need-returns

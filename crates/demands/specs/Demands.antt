@@ -1,8 +1,8 @@
--- THE THREE DEMANDS, and the rules of matching, of the order, of agreement, of lone sections, of cranes, of the book, of lists made elsewhere and of
--- size limits: each a record of statements over the bytes that a caller sees, and a theorem that proves it. A statement's hypothesis is what the
--- contract of a public entry says of its answer: `Code-says`, `Decode-says`, `Catalogue-says` and so on, from C `Code-returns` and its fellows. It
--- holds of whatever the call answers (r, v or t), where the lent output was o before the call and is z after it. Terms.antt has the terms that only
--- these statements need. That an answer and every lent byte follow from the input is in Determined.antt. Assumes nothing.
+-- THE THREE DEMANDS, and the rules of matching, of the order, of agreement, of lone sections, of cranes, of examples, of the book, of lists made
+-- elsewhere and of size limits: each a record of statements over the bytes that a caller sees, and a theorem that proves it. A statement's hypothesis
+-- is what the contract of a public entry says of its answer: `Code-says`, `Decode-says`, `Catalogue-says` and so on, from C `Code-returns` and its
+-- fellows. It holds of whatever the call answers (r, v or t), where the lent output was o before the call and is z after it. Terms.antt has the terms
+-- that only these statements need. That an answer and every lent byte follow from the input is in Determined.antt. Assumes nothing.
 use mathlib.Core.Path.{_≡_, sym, _∙_}
 use mathlib.Core.Bool.{true, false, cond}
 use mathlib.Core.List.{List, [], _∷_, _++_}

@@ -18,7 +18,7 @@ impl Entry {
 
     pub const EXAMPLE_AT: usize = Entry::RECORDS_AT + Entry::MOST_RECORDS * Code::RECORD_BYTES;
 
-    // An entry for a pattern of so many cables with so much support, which this drawing contains and none before it.
+    // An entry for a pattern of so many cables with so much support and this drawing as its example; both are 0 in a book.
     pub fn new(cables: usize, support: usize, example: usize) -> Self
         ensures { λ r. ⌜ r ≡ record { cables = cables; support = support; example = example } ⌝ }
     {

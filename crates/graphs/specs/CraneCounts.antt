@@ -13,6 +13,7 @@ use Rattle.graphs.specs.Survey.{count_true, marked_cranes, each_once, crane_coun
 -- EACH ONCE: the same numbers, none twice
 pub each_once_has : (xs : List ℕ) (v : ℕ) → Mem v xs → Mem v (each_once xs)
 unfolding each_once
+each_once_has [] v m = elim m [ ]
 each_once_has (x ∷ xs) v m = go (member x xs) refl m (each_once_has xs v)
   where
     go : (t : Bool) → member x xs ≡ t → Mem v (x ∷ xs) → (Mem v xs → Mem v (each_once xs)) → Mem v (cond t (each_once xs) (x ∷ each_once xs))

@@ -53,7 +53,7 @@ module _ {A : Type 0} where
     pub below : i < length xs
     pub is : get_or xs i d ≡ v
 
-  pub place : (d : A) {xs : List A} {v : A} → Mem v xs → MemPlace d xs v
+  pub place : (d : A) {v : A} {xs : List A} → Mem v xs → MemPlace d xs v
   place d (here e) = record { i = 0; below = omega arith; is = e }
   place d {v = v} (there {x = x} {xs = xs} m) = go (place d m)
     where

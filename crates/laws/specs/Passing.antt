@@ -20,6 +20,7 @@ module _ {A : Type 0} (t : A → Bool) where
   -- an element passes exactly if it is in the list and the test is true of it
   pub passing_has : (xs : List A) {v : A} → Mem v xs → t v ≡ true → Mem v (passing t xs)
   unfolding passing
+  passing_has [] {v = v} x'' h = elim x'' [ ]
   passing_has (x ∷ xs) {v} (Mem.here e) h = go (t x) (subst (λ (y : A). t y ≡ true) (sym e) h)
     where
       go : (b : Bool) → b ≡ true → Mem v (cond b (x ∷ passing t xs) (passing t xs))

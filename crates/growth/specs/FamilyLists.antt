@@ -70,6 +70,7 @@ module _ (labels : Rec → Rec → Bool) (o : LabelOrder labels) (Wanted : Drawi
   codes_of (c ∷ cs) = ap {B = List (List Rec)} (λ l. c ∷ l) (codes_of cs)
 
   from_entries : (e : Entry) (cs : List (List Rec)) → Mem e (map (entry_for figure) cs) → (c : List Rec) × Mem c cs × (entry_for figure c ≡ e)
+  from_entries e [] x' = elim x' [ ]
   from_entries e (c ∷ cs) (Mem.here q) = (c, Mem.here refl, q)
   from_entries e (c ∷ cs) (Mem.there m) = let t = from_entries e cs m in (t.0, Mem.there t.1, t.2)
 

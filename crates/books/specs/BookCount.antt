@@ -119,6 +119,7 @@ module _ {a b : ℕ} (few : a ≤ 3) (low : b ≤ 3) where
       }
 
   all_bounded : (γ rs : List Rec) → Listable kinds_before (Small a b) (γ ++ rs) → AllBounded rs
+  all_bounded γ [] f g x'' = elim x'' [ ]
   all_bounded γ (e ∷ rs) f g (Mem.here q) = subst Bounded q (prefix γ e rs f)
   all_bounded γ (e ∷ rs) f g (Mem.there m) = all_bounded (snoc γ e) rs (rw append_assoc f) g m
 

@@ -1,4 +1,6 @@
 // The program: prints the book that its arguments ask for. What fails is told on standard error.
+#![tactic(auto)]
+
 mod settings; // settings.rt: what the arguments ask for
 mod text; // text.rt: the text of a book
 

@@ -1,1 +1,2 @@
 // Theory only: the book of all small patterns. No program code.
+#![tactic(auto)]

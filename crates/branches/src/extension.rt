@@ -10,7 +10,7 @@ use records::drawing::Drawing;
 use tables::table::{CELLS, label};
 
 // A backward record to a place of the path, a forward one from a place of the path, each with its label, or nothing.
-#[derive(Drop)]
+#[derive(Clone, Copy)]
 pub enum Extension {
     Chord(usize, u32),
     Edge(usize, u32),

@@ -1,3 +1,5 @@
 // Calls of the library, made and printed, for the program `vectors`. Its functions ask nothing of their callers.
+#![tactic(auto)]
+
 pub mod book; // book.rt: the call that writes a book
 pub mod run; // run.rt: a call by its settings

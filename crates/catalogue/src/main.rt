@@ -1,4 +1,6 @@
 // The program: reads a survey from standard input and prints its usual catalogue. What fails is told on standard error.
+#![tactic(auto)]
+
 mod text; // text.rt: the text of a survey's usual catalogue
 
 use survey_input::input::{INPUT_BYTES, Input, read_survey};

@@ -8,7 +8,7 @@ ghost use Rattle.code_records.specs.Records.{as_rec, order_of, numbers_order, la
 use records::code::Code;
 
 // The devices i and j that a cable joins, the kind of i, the kind of the cable, the kind of j.
-#[derive(Drop)]
+#[derive(Clone, Copy)]
 pub struct Record {
     pub i: u8,
     pub j: u8,

@@ -1,1 +1,2 @@
 // Theory alone: the demands as theorems over bytes, above the libraries that meet them.
+#![tactic(auto)]

@@ -1,4 +1,6 @@
 // The calls over drawings and codes (`checks`, `code_checks`, `decoding`, `comparing`, `coding`, `matching`), asked for by number, for
 // the program `vectors`. Its functions ask nothing of their callers.
+#![tactic(auto)]
+
 pub mod ask; // ask.rt: the calls that are lent no output
 pub mod write; // write.rt: the calls that are

@@ -23,7 +23,7 @@ use taking::take::{TakenOn, take_on};
 
 // What a catalogue is asked for: the number of the survey's labels, of how many cranes drawings have to contain a pattern, how many
 // cables it may have, and whether a list is checked, not written.
-#[derive(Drop)]
+#[derive(Clone, Copy)]
 pub struct Settings {
     pub labels: usize,
     pub threshold: usize,

@@ -1,2 +1,4 @@
 // The book of all small patterns.
+#![tactic(auto)]
+
 pub mod book; // book.rt: the book written as entries

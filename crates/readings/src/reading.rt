@@ -10,7 +10,7 @@ use records::drawing::Drawing;
 
 // What the records so far tell: the code under work, the kind that each device was first given, and the j of the record
 // before if that one was backward, else NO_BACK.
-#[derive(Drop)]
+#[derive(Clone, Copy)]
 pub struct Reading {
     pub code: Code,
     pub kinds: [u8; Drawing::MOST_DEVICES],
@@ -19,7 +19,7 @@ pub struct Reading {
 }
 
 // What a record is read as: a permitted step from the device at a place of the rightmost path, counted from device 0.
-#[derive(Drop)]
+#[derive(Clone, Copy)]
 pub enum Step {
     From(usize),
     NotPermitted,

@@ -6,7 +6,7 @@ use crate::bytes::byte_or_zero;
 use crate::drawing::Drawing;
 
 // One end, the other end, and the kind of the cable between them.
-#[derive(Drop)]
+#[derive(Clone, Copy)]
 pub struct Cable {
     pub a: usize,
     pub b: usize,

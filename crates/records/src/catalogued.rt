@@ -3,7 +3,7 @@ use crate::refusal::Refusal;
 
 // The number of entries written, or the first reason to refuse, with the drawing at fault counted from 0, which is 0
 // where no drawing is.
-#[derive(Drop)]
+#[derive(Clone, Copy)]
 pub enum Catalogued {
     Entries(usize),
     Refused(Refusal, usize),

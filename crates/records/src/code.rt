@@ -4,7 +4,7 @@ ghost use Rattle.records.specs.Codes.{HoldsNothing};
 use crate::drawing::Drawing;
 
 // The bytes of `count` records, and the `path_count` devices of the rightmost path, from device 0 on.
-#[derive(Drop)]
+#[derive(Clone, Copy)]
 pub struct Code {
     pub records: [u8; Code::BYTES],
     pub count: usize,

@@ -8,7 +8,7 @@ use crate::bytes::byte_or_zero;
 use crate::refusal::{Checked, Refusal};
 
 // The counts that a record gives: its devices, n, and its cables, m.
-#[derive(Drop)]
+#[derive(Clone, Copy)]
 pub struct Drawing {
     pub devices: usize,
     pub cables: usize,

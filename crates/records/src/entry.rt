@@ -4,7 +4,7 @@ ghost use Rattle.std.specs.Prelude.{◌≡◌};
 use crate::code::Code;
 
 // The numbers of an entry: the two that it begins with, and the one that it ends with.
-#[derive(Drop)]
+#[derive(Clone, Copy)]
 pub struct Entry {
     pub cables: usize,
     pub support: usize,

@@ -1,4 +1,6 @@
 // Byte records: what a call refuses, and the drawing, survey, code and entry with their layouts and limits.
+#![tactic(auto)]
+
 pub mod refusal; // refusal.rt: why a call is turned back, by the paper's numbers
 pub mod drawing; // drawing.rt: a drawing's counts and limits, and refusals 2 and 3
 pub mod cable; // cable.rt: a drawing's cables

@@ -2,7 +2,7 @@
 use crate::refusal::Refusal;
 
 // Whether the list is the catalogue, or the first reason to refuse, with the drawing at fault counted from 0, which is 0 where no drawing is.
-#[derive(Drop)]
+#[derive(Clone, Copy)]
 pub enum ListChecked {
     Yes,
     No,

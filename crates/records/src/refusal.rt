@@ -3,7 +3,7 @@ ghost use Rattle.std.specs.Prelude.{◌≡◌};
 ghost use Rattle.records.specs.Refusals.{number_of};
 
 // One reason for each number of the paper, in its order. Step and Kind name the code record at fault, counted from 0.
-#[derive(Drop)]
+#[derive(Clone, Copy)]
 pub enum Refusal {
     DrawingLength,
     DeviceCount,
@@ -26,7 +26,7 @@ pub enum Refusal {
 }
 
 // What a check says: nothing to refuse, or the first reason to.
-#[derive(Drop)]
+#[derive(Clone, Copy)]
 pub enum Checked {
     Accepted,
     Refused(Refusal),

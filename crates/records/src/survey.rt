@@ -13,7 +13,7 @@ pub struct Survey {
 
 // What the check of a survey says: the number of its drawings, or the first reason to refuse it, with the drawing at
 // fault counted from 0, which is 0 where the survey's length is at fault.
-#[derive(Drop)]
+#[derive(Clone, Copy)]
 pub enum SurveyChecked {
     Accepted(usize),
     Refused(Refusal, usize),

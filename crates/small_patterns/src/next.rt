@@ -10,7 +10,7 @@ ghost use Rattle.books.specs.SmallFamily.{SmallLabels};
 use code_records::record::Record;
 
 // What a list of small patterns is asked for: how many kinds devices and cables may have, and how many cables there may be.
-#[derive(Drop)]
+#[derive(Clone, Copy)]
 pub struct BookBounds {
     pub devices: usize,
     pub cables: usize,

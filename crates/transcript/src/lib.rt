@@ -1,5 +1,7 @@
 // A list of calls as it is read and their answers as they are printed, for the program `vectors`. Its functions ask nothing of
 // their callers.
+#![tactic(auto)]
+
 pub mod call; // call.rt: the number of each call
 pub mod bytes; // bytes.rt: bytes and numbers at a place
 pub mod part; // part.rt: the parts of a list

@@ -1,5 +1,7 @@
 // Vectors: makes the calls of the library that standard input lists, and prints for each what it answers and leaves in the
 // lent bytes. The list and what has to be printed are made by separate code, in tests/differential.
+#![tactic(auto)]
+
 mod list; // list.rt: the list of calls
 
 use crate::list::run_all;

@@ -1,4 +1,4 @@
--- `code::Code::new` meets its contract: nothing of its arrays counts. Assumes nothing.
+-- `code::Code::new` meets its contract: every byte is zero. Assumes nothing.
 use borrow.Author.Rules.{rules}
 use Rattle.records.specs.Codes.{code_bytes, code_path}
 use Rattle.records.proofs.code.Code.new.Goals as goal

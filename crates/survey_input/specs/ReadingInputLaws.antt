@@ -6,11 +6,10 @@ use Prim.Native.Nat.{ℕ, zero, suc, ◌+◌, ◌-◌, ◌≤◌, ◌<◌}
 use Rattle.std.proofs.Common.{arith}
 use Rattle.std.specs.Int.Signed.{lt_z, non_neg}
 use borrow.Author.Tests.{lt-ltb, le-ltb, ltb-true}
-use Rattle.libc.specs.Io.{Moved}
 use Rattle.survey_input.specs.declared.input.Input.{Input}
 use Rattle.survey_input.specs.declared.input.Input.TheVariants.{Bytes}
 use Rattle.survey_input.specs.declared.input.Turn.TheVariants.{More, All, Failed}
-use Rattle.survey_input.specs.ReadingInput.{after_read, ReadWithin}
+use Rattle.survey_input.specs.ReadingInput.{after_read, Moved, ReadWithin}
 
 -- CASE BY CASE
 pub read_not_failed : (z : ℤ) → lt_z z (pos 0) ≡ false → T (non_neg z)

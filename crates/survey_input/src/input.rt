@@ -1,7 +1,10 @@
 // Reading a survey: to the end of the input, or as far as it takes to refuse it, unless a read fails. A read that fails is not
 // tried again: after some failures the next read answers 0, as at the end of the input, and a part would pass for the whole.
-ghost use Rattle.std.specs.Prelude.{◌≡◌, ◌≤◌};
-ghost use Rattle.survey_input.specs.ReadingInput.{after_read, ReadWithin};
+ghost use Rattle.std.specs.Prelude.{◌≡◌, ◌≤◌, pos, negsuc, IfOk, IfErr};
+ghost use Rattle.survey_input.specs.ReadingInput.{after_read, Moved, ReadWithin};
+
+use std::io;
+use std::io::Read;
 
 // One drawing more than a survey may have: a longer input is refused as one of 33 drawings.
 pub const INPUT_BYTES: usize = 2409;
@@ -39,14 +42,28 @@ fn after_read(n: usize, got: isize) -> Turn
     Turn::All(n + more)
 }
 
+// What a read of at most so many bytes answers: how many came, or -1 where it failed.
+fn answer_of(read: io::Result<usize>, most: usize) -> isize
+    requires { (most ≤ 2409) × IfOk read (λ k. k ≤ most) }
+    ensures moved { Moved most result }
+    ensures bytes { IfOk read (λ k. result ≡ pos k) }
+    ensures failure { IfErr read (λ e. result ≡ negsuc 0) }
+{
+    match read {
+        Ok(bytes) => bytes as isize,
+        Err(_) => -1,
+    }
+}
+
 // Reads a survey into the lent bytes, in as many reads as it takes.
-pub fn read_survey(input: &mut [u8; INPUT_BYTES]) -> Input
+pub fn read_survey<R: Read>(reader: &mut R, input: &mut [u8; INPUT_BYTES]) -> Input
     ensures { ReadWithin result input.new }
 {
     let bytes: &mut [u8] = input;
     let mut n = 0;
     loop {
-        match after_read(n, libc::read(libc::STDIN_FILENO, &mut bytes[n..])) {
+        let most = INPUT_BYTES - n;
+        match after_read(n, answer_of(reader.read(&mut bytes[n..]), most)) {
             Turn::More(read) => n = read,
             Turn::All(read) => return Input::Bytes(read),
             Turn::Failed => return Input::Failed,

@@ -9,7 +9,7 @@ use Rattle.std.proofs.Math.Decide.{dec_lt}
 use Rattle.laws.specs.Tests.{false_unless}
 use Rattle.laws.specs.Lists.{drop_take_more}
 use Rattle.laws.specs.Rows.{row}
-use Rattle.graphs.specs.Drawing.{Cable, Drawing, devices, kind}
+use Rattle.graphs.specs.Drawing.{Cable, Drawing, devices}
 use Rattle.graphs.specs.Cables.{Joins, along, against, Has, has_flip, has_at}
 use Rattle.graphs.specs.Graph.{Simple, Pattern}
 use Rattle.codes.specs.Code.{Rec, fresh, rows_refusal, rec_in, cable_of, kinds_before, rec_before, decoded, code_refusal, code_records}

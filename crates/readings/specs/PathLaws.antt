@@ -1,5 +1,5 @@
 -- The rightmost path as an array from device 0 on, searched from its end down. Rests on Descending. Assumes nothing.
-use Rattle.std.specs.Prelude.{◌≡◌, refl, true, false, List, [], ◌∷◌, ℕ, suc, ◌+◌, ◌≤◌, ◌<◌, length, get_or, set}
+use Rattle.std.specs.Prelude.{◌≡◌, refl, true, false, List, ◌∷◌, ℕ, suc, ◌+◌, ◌≤◌, ◌<◌, length, get_or, set}
 use Rattle.std.proofs.Common.{ap₂, ◌∙◌, length-set, get_or-set_same, get_or-set_other, eq-eqb, ne_eqb}
 use native.Mathlib.Omega.{arith}
 use Rattle.laws.specs.Lists.{Mem}

@@ -23,19 +23,7 @@ use Rattle.laws.specs.Tests.{and_split, or_cases, or_left, or_right, false_unles
 use Rattle.laws.specs.Rows.{rows}
 use Rattle.graphs.specs.Drawing.{member}
 use Rattle.graphs.specs.Cables.{mem_from_test, mem_to_test}
-use Rattle.codes.specs.Code.{
-  Rec,
-  Reading,
-  fresh,
-  forward,
-  end,
-  second,
-  forward_good,
-  backward_good,
-  step_good,
-  begun,
-  recs_in,
-}
+use Rattle.codes.specs.Code.{Rec, Reading, fresh, forward, end, second, forward_good, backward_good, step_good, recs_in}
 use Rattle.codes.specs.Step.{Backward}
 use Rattle.codes.specs.Reading.{Invariant}
 use Rattle.codes.specs.ReadRows.{begun_from_test, begun_to_test}

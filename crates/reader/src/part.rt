@@ -1,4 +1,4 @@
-// The parts of a survey that opening and fetching give. Nothing here holds the survey, so callers need no proof by hand.
+// The parts of a survey that opening and fetching give.
 ghost use Rattle.std.specs.Prelude.{◌≡◌};
 ghost use Rattle.records.specs.Refusals.{checked_number};
 ghost use Rattle.graphs.specs.Survey.{drawing_count};

@@ -1,5 +1,4 @@
-// A survey that was opened. The borrow checker covers no function over a struct that holds a slice, so these are thin and
-// proved by hand; the work is in part.rt.
+// A survey that was opened; the work is in part.rt.
 ghost use Rattle.reader.specs.Readers.{Opens, Fetches};
 
 use crate::part::{check_fetch, drawing_part, readable_part};
@@ -7,20 +6,20 @@ use checks::survey::check_length;
 use records::refusal::Checked;
 
 // The bytes of the survey, lent; none where opening was refused.
-#[derive(Drop)]
+#[derive(Clone, Copy)]
 pub struct Reader<'a> {
     bytes: &'a [u8],
 }
 
 // What opening gives: a reader, of no drawings where the length is refused.
-#[derive(Drop)]
+#[derive(Clone, Copy)]
 pub struct Opened<'a> {
     pub reader: Reader<'a>,
     pub checked: Checked,
 }
 
 // What fetching gives: the bytes of the drawing, none where there is no such drawing.
-#[derive(Drop)]
+#[derive(Clone, Copy)]
 pub struct Fetched<'a> {
     pub part: &'a [u8],
     pub checked: Checked,

@@ -5,7 +5,7 @@ ghost use Rattle.text_lines.specs.Texts.{decimal};
 ghost use Rattle.text_lines.specs.Writing.{Wrote};
 
 // Where the next byte goes and how many bytes there is room for; or that the text is past its room.
-#[derive(Drop)]
+#[derive(Clone, Copy)]
 pub enum Place {
     At { at: usize, room: usize },
     Past,

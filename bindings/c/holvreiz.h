@@ -3,7 +3,7 @@
  *
  * The functions are proved: each answers any bytes of any length with what its contract says (crates/holvreiz/src), reads
  * nothing outside the bytes that it is given and writes nothing outside the lent output. Link target/staticlib/libholvreiz.a,
- * which `rt staticlib holvreiz` writes, into an x86-64 Linux program. There is no state: calls from several threads don't
+ * which `tests/build` writes, into an x86-64 Linux program. There is no state: calls from several threads don't
  * disturb each other.
  *
  * WHAT A CALLER OWES, for each pointer with its length:

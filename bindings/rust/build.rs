@@ -1,4 +1,4 @@
-//! Links libholvreiz.a, which `rt staticlib holvreiz` writes. HOLVREIZ_LIB_DIR names another folder to take it from.
+//! Links libholvreiz.a, which `tests/build` writes. HOLVREIZ_LIB_DIR names another folder to take it from.
 use std::env;
 use std::path::PathBuf;
 
@@ -12,7 +12,7 @@ fn main() {
     let archive = folder.join("libholvreiz.a");
     if !archive.is_file() {
         panic!(
-            "no {}: run `rt staticlib holvreiz`, or set HOLVREIZ_LIB_DIR",
+            "no {}: run `tests/build`, or set HOLVREIZ_LIB_DIR",
             archive.display()
         );
     }

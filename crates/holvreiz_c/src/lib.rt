@@ -5,9 +5,7 @@
 ghost use Rattle.mining.specs.UsualSettings.{usual, former};
 ghost use Rattle.holvreiz.specs.Returns.{CodeReturns, DecodeReturns, LeastReturns, CompareReturns, MatchReturns, SameReturns, CatalogueReturns, BookReturns, CheckReturns};
 
-use holvreiz::catalogue;
-use holvreiz::code;
-use holvreiz::map;
+use holvreiz::{catalogue, code, map};
 
 #[unsafe(no_mangle)]
 pub extern "C" fn holvreiz_code(drawing: &[u8], output: &mut [u8]) -> u64

@@ -1,7 +1,7 @@
 -- `catalogue::write_catalogue` meets its contract. Assumes nothing.
 use mathlib.Core.Path.{refl}
 use Rattle.mining.specs.SettingsLaws.{settings_refused, settings_number, settings_fine}
-use Rattle.mining.specs.WriteLaws.{says_turned_back, says_written}
+use Rattle.mining.proofs.SaysLaws.{says_turned_back, says_written}
 use Rattle.mining.proofs.catalogue.write_catalogue.Goals as goal
 
 pub returns-in-Refused : goal.returns-in-Refused

@@ -1,12 +1,11 @@
 -- What is printed of whatever writing a book answers and leaves is the text of the book, and each book has just one. Rests on ListTextLaws.
 -- Assumes nothing.
-use Rattle.std.specs.Prelude.{◌≡◌, List, ℕ, ◌^◌, ◌<◌, length, take}
+use Rattle.std.specs.Prelude.{◌≡◌, List, ℕ, ◌^◌, ◌<◌, length, take, Option, Result}
 use Rattle.std.proofs.Common.{arith, lit<}
 use Rattle.graphs.specs.Survey as surveys
 use Rattle.books.specs.Book.{Small, unsupported, book_refusal}
 use Rattle.books.specs.BookSettings.{settings_fit}
-use Rattle.records.specs.declared.catalogued.Catalogued.{Catalogued}
-use Rattle.printing.specs.declared.answer.Printed.{Printed}
+use Rattle.records.specs.declared.refusal.Fault.{Fault}
 use Rattle.printing.specs.TextSizes.{BytesIn}
 use Rattle.printing.specs.Says.{TextSays}
 use Rattle.printing.specs.ListTextLaws.{list_text_made, whole_text_once}
@@ -15,9 +14,9 @@ use Rattle.book.specs.BookText.{BookTextSays, book_room, BookPrinted}
 
 -- MAKING IT: the book written, then the text of what that answers and leaves
 pub book_text_made :
-    (a b l : ℕ) (c : Catalogued) (es es_now : List ℕ) → BookSays a b l c es es_now
+    (a b l : ℕ) (c : Result ℕ Fault) (es es_now : List ℕ) → BookSays a b l c es es_now
     → length es < 10 ^ 20 → length es_now ≡ length es → BytesIn es_now
-    → (r : Printed) (out out_now : List ℕ) → TextSays c es_now r out out_now → BookTextSays a b l (length es) r out out_now
+    → (r : Option ℕ) (out out_now : List ℕ) → TextSays c es_now r out out_now → BookTextSays a b l (length es) r out out_now
 unfolding surveys.refusal
 book_text_made a b l c es es_now =
     list_text_made (surveys.refusal (book_refusal a b l) 0) (Small a b) unsupported l (λ e. omega (arith, (settings_fit a b l e).2))

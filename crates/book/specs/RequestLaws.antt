@@ -1,21 +1,25 @@
 -- Reading what is asked for: digits one after another, the value always below a power of ten, then the number of them; what is written in
 -- decimal is read back. Assumes nothing.
-use Rattle.std.specs.Prelude.{◌≡◌, refl, Bool, true, false, cond, List, [], ◌∷◌, ◌++◌, ℕ, zero, suc, ◌+◌, ◌*◌, ◌-◌, ◌/◌, ◌%◌, ◌^◌, ◌≤◌, ◌<◌, ltb, length, get_or, drop}
+use Rattle.std.specs.Prelude.{◌≡◌, refl, Bool, true, false, cond, List, [], ◌∷◌, ◌++◌, ℕ, zero, suc, ◌+◌, ◌*◌, ◌-◌, ◌/◌, ◌%◌, ◌^◌, ◌≤◌, ◌<◌, ltb, length, get_or, drop, Some, None}
 use Rattle.std.proofs.Common.{sym, ap, ◌∙◌, arith, length-append, drop-cons}
+use Rattle.std.specs.Char.{is_ascii_digit}
 use Rattle.std.proofs.Math.Nat.{pow-succ', pow-le-pow_right}
 use Rattle.std.proofs.Math.Seq.{drop-length}
 use borrow.Author.Tests.{ltb-true, le-leb, lt-leb, eq-eqb, ne_eqb}
 use Rattle.laws.specs.Tests.{and_split, and_both}
 use Rattle.text_lines.specs.Texts.{digits, decimal}
 use Rattle.text_lines.specs.Numbers.{digits_value, decimal_value, decimal_length}
-use Rattle.book.specs.declared.settings.Numeral.TheVariants.{Of, Unread}
-use Rattle.book.specs.declared.settings.Request.TheVariants.{Book, Unclear}
-use Rattle.book.specs.Requests.{is_digit, all_digits, digits_read, numeral_read, book_read, request_read}
+use Rattle.book.specs.Requests.{is_digit, all_digits, digits_read, numeral_read, asked, book_read, request_read}
 
 -- ONE BYTE
 digit_within : (b : ℕ) → 48 ≤ b → b ≤ 57 → is_digit b ≡ true
 unfolding is_digit
 digit_within b h k = rw (le-leb 48 b h, le-leb b 57 k)
+
+-- which std's test is
+pub digit_tested : (b : ℕ) → is_ascii_digit b ≡ is_digit b
+unfolding is_digit
+digit_tested b = refl
 
 digit_below : (b : ℕ) → b < 48 → is_digit b ≡ false
 unfolding is_digit
@@ -26,7 +30,7 @@ unfolding is_digit
 digit_above b h = rw (le-leb 48 b (omega arith), lt-leb b 57 h)
 
 -- ALL ARE READ
-pub read_to_end : (v : ℕ) (w : List ℕ) → digits_read v (drop (length w) w) ≡ Of v
+pub read_to_end : (v : ℕ) (w : List ℕ) → digits_read v (drop (length w) w) ≡ Some v
 unfolding digits_read all_digits digits_value
 read_to_end v w = rw (drop-length w)
 
@@ -38,14 +42,14 @@ module _ (v : ℕ) (w : List ℕ) (i : ℕ) (h : i < length w) where
   read_on l m = rw (drop-cons w i 0 h, digit_within (get_or w i 0) l m)
 
   -- ONE IS NO DIGIT
-  stop : is_digit (get_or w i 0) ≡ false → digits_read v (drop i w) ≡ Unread
+  pub stop : is_digit (get_or w i 0) ≡ false → digits_read v (drop i w) ≡ None
   unfolding digits_read all_digits
   stop e = rw (drop-cons w i 0 h, e)
 
-  pub stop_below : get_or w i 0 < 48 → digits_read v (drop i w) ≡ Unread
+  pub stop_below : get_or w i 0 < 48 → digits_read v (drop i w) ≡ None
   stop_below l = stop (digit_below (get_or w i 0) l)
 
-  pub stop_above : 57 < get_or w i 0 → digits_read v (drop i w) ≡ Unread
+  pub stop_above : 57 < get_or w i 0 → digits_read v (drop i w) ≡ None
   stop_above l = stop (digit_above (get_or w i 0) l)
 
 -- THE VALUE of i digits is below 10 ^ i, so nine of them and the next sum are numbers of the machine's
@@ -57,11 +61,11 @@ value_grows v i d h k = omega (arith, pow-succ' 10 i)
 
 -- THE NUMBER OF DIGITS
 module _ (w : List ℕ) where
-  pub numeral_empty : length w < 1 → Unread ≡ numeral_read w
+  pub numeral_empty : length w < 1 → None ≡ numeral_read w
   unfolding numeral_read
   numeral_empty h = rw (lt-leb 1 (length w) h)
 
-  pub numeral_long : 9 < length w → Unread ≡ numeral_read w
+  pub numeral_long : 9 < length w → None ≡ numeral_read w
   unfolding numeral_read
   numeral_long h = rw (le-leb 1 (length w) (omega arith), lt-leb (length w) 9 h)
 
@@ -71,11 +75,11 @@ module _ (w : List ℕ) where
 
 -- THE NUMBER OF WORDS
 module _ (n : ℕ) (x y z : List ℕ) where
-  pub asked_usual : n ≡ 1 → Book 2 2 2 ≡ request_read n x y z
+  pub asked_usual : n ≡ 1 → Some (asked 2 2 2) ≡ request_read n x y z
   unfolding request_read
   asked_usual e = rw (eq-eqb n 1 e)
 
-  pub asked_other : (n ≡ 1 → ⊥) → (n ≡ 4 → ⊥) → Unclear ≡ request_read n x y z
+  pub asked_other : (n ≡ 1 → ⊥) → (n ≡ 4 → ⊥) → None ≡ request_read n x y z
   unfolding request_read
   asked_other h k = rw (ne_eqb n 1 h, ne_eqb n 4 k)
 
@@ -112,12 +116,12 @@ decimal_some n = go (ltb n 10)
     go true = omega arith
     go false = omega (arith, length-append (digits n (n / 10)) ((48 + n % 10) ∷ []))
 
-numeral_decimal : (n : ℕ) → n < 10 ^ 9 → numeral_read (decimal n) ≡ Of n
+numeral_decimal : (n : ℕ) → n < 10 ^ 9 → numeral_read (decimal n) ≡ Some n
 unfolding digits_read decimal
 numeral_decimal n h =
-    sym (numeral_fit (decimal n) (decimal_some n) (decimal_length n 8 h)) ∙ rw (decimal_digits (suc n) n) (ap Of (decimal_value n))
+    sym (numeral_fit (decimal n) (decimal_some n) (decimal_length n 8 h)) ∙ rw (decimal_digits (suc n) n) (ap Some (decimal_value n))
 
 pub asked_in_decimal :
-    (a b l : ℕ) → a < 10 ^ 9 → b < 10 ^ 9 → l < 10 ^ 9 → request_read 4 (decimal a) (decimal b) (decimal l) ≡ Book a b l
+    (a b l : ℕ) → a < 10 ^ 9 → b < 10 ^ 9 → l < 10 ^ 9 → request_read 4 (decimal a) (decimal b) (decimal l) ≡ Some (asked a b l)
 asked_in_decimal a b l h k m =
     sym (asked_three 4 (decimal a) (decimal b) (decimal l) refl) ∙ rw (numeral_decimal a h, numeral_decimal b k, numeral_decimal l m)

@@ -17,48 +17,42 @@ const STDERR: i32 = 2;
 // One word more than the program's name and three numbers: whether there are more still is all the same.
 const MOST_WORDS: usize = 5;
 
-// Puts argument i into the lent bytes and counts its bytes: none where it is missing, or longer than what it is put into.
-fn word<R: Env>(rt: &R, i: usize, bytes: &mut [u8]) -> usize
-    ensures { result ≤ length bytes.new }
+// Argument i, put into the lent bytes: empty where it is missing, or longer than they are. That is no number either.
+fn word<'a, R: Env>(rt: &R, i: usize, bytes: &'a mut [u8]) -> &'a [u8]
+    ensures { length result.now ≤ length bytes.old }
 {
-    match rt.arg(i, bytes) {
-        Ok(n) => n,
-        Err(_) => 0,
-    }
+    let n = rt.arg(i, bytes).unwrap_or(0);
+    &bytes[..n]
 }
 
 // How many words the program was called with, its name among them, up to MOST_WORDS.
 fn word_count<R: Env>(rt: &R) -> usize {
     let mut bytes = [0u8; MOST_DIGITS];
-    for i in 0..MOST_WORDS {
-        if let Err(FillError::NotPresent) = rt.arg(i, &mut bytes) {
-            return i;
-        }
-    }
-    MOST_WORDS
+    (0..MOST_WORDS)
+        .position(|i| matches!(rt.arg(i, &mut bytes), Err(FillError::NotPresent)))
+        .unwrap_or(MOST_WORDS)
 }
 
 // Prints the text of the book. No contract can say what is written: what is handed over is the text's first n bytes.
-fn print(a: u32, b: u32, limit: u32) {
+fn print(request: Request) {
     let mut entries = [0u8; BOOK_BYTES];
     let mut text = [0u8; BOOK_TEXT_BYTES];
-    let n = whole_book(a, b, limit, &mut entries, &mut text);
+    let n = whole_book(request, &mut entries, &mut text);
     if !io::write_all(STDOUT, &text[..n]) {
         io::write_all(STDERR, b"book: writing failed\n");
     }
 }
 
-// An argument that is missing, or longer than what it is put into, counts no bytes: it is not a number either.
 fn main(rt: HostRuntime) {
     let mut first = [0u8; MOST_DIGITS];
     let mut second = [0u8; MOST_DIGITS];
     let mut third = [0u8; MOST_DIGITS];
-    let a = word(&rt, 1, &mut first);
-    let b = word(&rt, 2, &mut second);
-    let c = word(&rt, 3, &mut third);
-    match read_request(word_count(&rt), &first[..a], &second[..b], &third[..c]) {
-        Request::Book(devices, cables, limit) => print(devices, cables, limit),
-        Request::Unclear => {
+    let first = word(&rt, 1, &mut first);
+    let second = word(&rt, 2, &mut second);
+    let third = word(&rt, 3, &mut third);
+    match read_request(word_count(&rt), first, second, third) {
+        Some(request) => print(request),
+        None => {
             io::write_all(
                 STDERR,
                 b"book: give three numbers: kinds of devices, kinds of cables, most cables\n",

@@ -2,8 +2,8 @@
 ghost use Rattle.std.specs.Prelude.{length};
 ghost use Rattle.book.specs.BookText.{BookTextSays, BookPrinted};
 
+use crate::settings::Request;
 use pattern_book::book::write_book;
-use printing::answer::Printed;
 use printing::text::write_text;
 
 // The entries of the largest book, of three kinds each and at most three cables: 1,947 of 43 bytes.
@@ -13,25 +13,21 @@ pub const BOOK_BYTES: usize = 83721;
 pub const BOOK_TEXT_BYTES: usize = 329083;
 
 // Makes the text of the book in front of the lent bytes.
-fn book_text(a: u32, b: u32, limit: u32, entries: &mut [u8], text: &mut [u8]) -> Printed
-    ensures { BookTextSays a b limit (length entries.old) result text.old text.new }
+fn book_text(request: Request, entries: &mut [u8], text: &mut [u8]) -> Option<usize>
+    ensures { BookTextSays request.devices request.cables request.limit (length entries.old)
+        result text.old text.new }
 {
-    let answer = write_book(a, b, limit, entries);
+    let answer = write_book(request.devices, request.cables, request.limit, entries);
     write_text(answer, entries, text)
 }
 
-// The same in the program's own bytes, and the number of bytes that the text has. TooShort never comes: every text fits.
+// The same in the program's own bytes, and the number of bytes that the text has. None never comes: every text fits.
 pub fn whole_book(
-    a: u32,
-    b: u32,
-    limit: u32,
+    request: Request,
     entries: &mut [u8; BOOK_BYTES],
     text: &mut [u8; BOOK_TEXT_BYTES],
 ) -> usize
-    ensures { BookPrinted a b limit result text.old text.new }
+    ensures { BookPrinted request.devices request.cables request.limit result text.old text.new }
 {
-    match book_text(a, b, limit, entries, text) {
-        Printed::Bytes(n) => n,
-        Printed::TooShort => 0,
-    }
+    book_text(request, entries, text).unwrap()
 }

@@ -1,5 +1,5 @@
 -- What the search for the least record that goes on finds, in terms of BranchState. Assumes nothing: these are definitions.
-use Rattle.std.specs.Prelude.{◌≡◌, cond, List, ◌⊎◌, ℕ, ◌≤◌, ◌<◌, ltb, eqb}
+use Rattle.std.specs.Prelude.{◌≡◌, cond, List, ◌⊎◌, ℕ, ◌≤◌, ◌<◌, ltb, eqb, Option, Some, None}
 use Rattle.codes.specs.BranchState.{
   State,
   OpenPlace,
@@ -12,20 +12,18 @@ use Rattle.codes.specs.BranchState.{
   NothingFound,
 }
 use Rattle.branches.specs.declared.extension.Extension.{Extension}
-use Rattle.branches.specs.declared.extension.Extension.TheVariants.{Chord, Edge, None}
-use Rattle.branches.specs.declared.extension.Found.{Found}
-use Rattle.branches.specs.declared.extension.Found.TheVariants.{At, Nothing}
+use Rattle.branches.specs.declared.extension.Extension.TheVariants.{Chord, Edge}
 
 -- WHAT IS FOUND, case by case
-abbrev pub ExtensionFound : List ℕ → State → Extension → Type 0
-ExtensionFound t b (Chord q l) = ChordFound t b q l
-ExtensionFound t b (Edge q l) = EdgeFound t b q l
+abbrev pub ExtensionFound : List ℕ → State → Option Extension → Type 0
+ExtensionFound t b (Some (Chord q l)) = ChordFound t b q l
+ExtensionFound t b (Some (Edge q l)) = EdgeFound t b q l
 ExtensionFound t b None = NothingFound t b
 
--- the first chord, or none
-abbrev pub FirstChord : List ℕ → State → Found → Type 0
-FirstChord t b (At q l) = ChordFound t b q l
-FirstChord t b Nothing = NoChord t b
+-- the first chord, to a place and with a label, or none
+abbrev pub FirstChord : List ℕ → State → Option (ℕ × ℕ) → Type 0
+FirstChord t b (Some z) = ChordFound t b z.0 z.1
+FirstChord t b None = NoChord t b
 
 -- the label of the chord to place q, 0 where the place is not open
 pub record ChordSeen (t : List ℕ) (b : State) (q l : ℕ) : Type 0 where

@@ -5,6 +5,7 @@ ghost use Rattle.std.specs.Prelude.{◌≡◌, ◌<◌};
 ghost use Rattle.branches.specs.Branches.{device_placed, OnPath, NumberGiven, NumberTaken};
 
 use records::drawing::Drawing;
+use std::mem::replace;
 
 // The device at place q of the path.
 pub fn device_at(
@@ -15,8 +16,7 @@ pub fn device_at(
     requires { OnPath numbers.now path.now q }
     ensures { (result ≡ device_placed numbers.now path.now q) × (result < 10) }
 {
-    let number = path[q] as usize;
-    numbers[number] as usize
+    usize::from(numbers[usize::from(path[q])])
 }
 
 // What stood where a number was given: in `numbers`, and behind a place of the path.
@@ -39,12 +39,11 @@ pub fn give_number(
     ensures { NumberGiven numbers.old numbers.new used.old used.new
         path.old path.new given q w result }
 {
-    let number = numbers[given];
-    let next = path[q + 1];
-    numbers[given] = w as u8;
     used[w] = true;
-    path[q + 1] = given as u8;
-    Displaced { number, next }
+    Displaced {
+        number: replace(&mut numbers[given], w as u8),
+        next: replace(&mut path[q + 1], given as u8),
+    }
 }
 
 // The number is taken back, and what stood there before stands there again.

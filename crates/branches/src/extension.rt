@@ -9,19 +9,11 @@ use crate::branch::device_at;
 use records::drawing::Drawing;
 use tables::table::{CELLS, label};
 
-// A backward record to a place of the path, a forward one from a place of the path, each with its label, or nothing.
+// A backward record to a place of the path, or a forward one from a place of the path, each with its label.
 #[derive(Clone, Copy)]
 pub enum Extension {
     Chord(usize, u32),
     Edge(usize, u32),
-    None,
-}
-
-// A place of the path with a label, or nothing.
-#[derive(Drop)]
-enum Found {
-    At(usize, u32),
-    Nothing,
 }
 
 // The label from the path's end to place q, where a backward step may go there; elsewhere 0, as if no cable were there.
@@ -37,10 +29,7 @@ fn chord_label(
     ensures { (used : List Bool) (given : ℕ)
         → ChordSeen table.now (in_place numbers.now used path.now count given low) q result }
 {
-    if count <= q + 2 {
-        return 0;
-    }
-    if (path[q] as usize) < low {
+    if count <= q + 2 || usize::from(path[q]) < low {
         return 0;
     }
     label(
@@ -50,14 +39,14 @@ fn chord_label(
     )
 }
 
-// The lowest place that has a chord: backward records rise by the device that they go to.
+// The lowest place that has a chord, and its label: backward records rise by the device that they go to.
 fn first_chord(
     table: &[u32; CELLS],
     numbers: &[u8; Drawing::MOST_DEVICES],
     path: &[u8; Drawing::MOST_DEVICES],
     count: usize,
     low: usize,
-) -> Found
+) -> Option<(usize, u32)>
     requires { Places numbers.now path.now count }
     ensures { (used : List Bool) (given : ℕ)
         → FirstChord table.now (in_place numbers.now used path.now count given low) result }
@@ -65,23 +54,23 @@ fn first_chord(
     for q in 0..count {
         let l = chord_label(table, numbers, path, count, low, q);
         if l != 0 {
-            return Found::At(q, l);
+            return Some((q, l));
         }
     }
-    Found::Nothing
+    None
 }
 
 // The lesser of two labels, of which 0 is none.
+// 0 and no Option, as in the cells of a table: each label read would be turned, the new form is no plainer.
+#[tactic(auto, unfolding(crate::specs::Extensions::lesser_label))]
 fn lesser(a: u32, b: u32) -> u32
     ensures { result ≡ lesser_label a b }
 {
-    if a == 0 {
-        return b;
+    match (a, b) {
+        (0, _) => b,
+        (_, 0) => a,
+        _ => a.min(b),
     }
-    if b == 0 {
-        return a;
-    }
-    if b < a { b } else { a }
 }
 
 // The least label from place q to a device that has no number, or 0.
@@ -98,8 +87,8 @@ pub fn least_edge(
 {
     let from = device_at(numbers, path, q);
     let mut least = 0;
-    for w in 0..Drawing::MOST_DEVICES {
-        if !used[w] {
+    for (w, &is_used) in used.iter().enumerate() {
+        if !is_used {
             least = lesser(least, label(table, from, w));
         }
     }
@@ -113,23 +102,20 @@ fn deepest_edge(
     used: &[bool; Drawing::MOST_DEVICES],
     path: &[u8; Drawing::MOST_DEVICES],
     count: usize,
-) -> Extension
+) -> Option<Extension>
     requires { Places numbers.now path.now count × (length used.now ≡ 10) }
     ensures { (given low : ℕ)
         → NoChord table.now (in_place numbers.now used.now path.now count given low)
         → ExtensionFound table.now
         (in_place numbers.now used.now path.now count given low) result }
 {
-    let mut above = count;
-    while 0 < above {
-        let q = above - 1;
+    for q in (0..count).rev() {
         let least = least_edge(table, numbers, used, path, q);
         if least != 0 {
-            return Extension::Edge(q, least);
+            return Some(Extension::Edge(q, least));
         }
-        above = q;
     }
-    Extension::None
+    None
 }
 
 // The least record that goes on from a branch.
@@ -140,13 +126,13 @@ pub fn least_extension(
     path: &[u8; Drawing::MOST_DEVICES],
     count: usize,
     low: usize,
-) -> Extension
+) -> Option<Extension>
     requires { Places numbers.now path.now count × (length used.now ≡ 10) }
     ensures { (given : ℕ) → ExtensionFound table.now
         (in_place numbers.now used.now path.now count given low) result }
 {
     match first_chord(table, numbers, path, count, low) {
-        Found::At(q, l) => Extension::Chord(q, l),
-        Found::Nothing => deepest_edge(table, numbers, used, path, count),
+        Some((q, l)) => Some(Extension::Chord(q, l)),
+        None => deepest_edge(table, numbers, used, path, count),
     }
 }

@@ -2,4 +2,5 @@
 #![tactic(auto)]
 
 pub mod book; // book.rt: the call that writes a book
+pub mod request; // request.rt: a call as a list has it
 pub mod run; // run.rt: a call by its settings

@@ -1,6 +1,6 @@
 -- What is printed of whatever a catalogue call answers and leaves is the text of the survey: the drawing at fault is one of the survey's, so
 -- its number is one of the machine's. Rests on ListTextLaws. Assumes nothing.
-use Rattle.std.specs.Prelude.{◌≡◌, Bool, true, false, ◌&&◌, not, cond, List, [], ◌∷◌, ℕ, suc, ◌+◌, ◌/◌, ◌^◌, ◌≤◌, ◌<◌, leb, eqb, length}
+use Rattle.std.specs.Prelude.{◌≡◌, Bool, true, false, ◌&&◌, not, cond, List, [], ◌∷◌, Option, Result, ℕ, suc, ◌+◌, ◌/◌, ◌^◌, ◌≤◌, ◌<◌, leb, eqb, length}
 use Rattle.std.proofs.Common.{arith}
 use Rattle.laws.specs.Rows.{rows_length}
 use Rattle.graphs.specs.Drawing.{drawing_refusal}
@@ -8,8 +8,7 @@ use Rattle.graphs.specs.Survey as surveys
 use Rattle.graphs.specs.Survey.{records_in, drawings_refusal, length_refusal, bytes_refusal, survey_refusal}
 use Rattle.growth.specs.Catalogue.{OftenIn, figures_of}
 use Rattle.mining.specs.CatalogueSays.{CatalogueSays}
-use Rattle.records.specs.declared.catalogued.Catalogued.{Catalogued}
-use Rattle.printing.specs.declared.answer.Printed.{Printed}
+use Rattle.records.specs.declared.refusal.Fault.{Fault}
 use Rattle.printing.specs.TextSizes.{BytesIn}
 use Rattle.printing.specs.Says.{TextSays}
 use Rattle.printing.specs.ListTextLaws.{list_text_made}
@@ -39,9 +38,9 @@ drawing_low bs s l =
 
 -- MAKING IT: the catalogue call, then the text of what it answers and leaves
 pub survey_text_made :
-    (bs : List ℕ) (s l : ℕ) → l ≤ 8 → (a : Catalogued) (es es_now : List ℕ) → CatalogueSays bs s l a es es_now
+    (bs : List ℕ) (s l : ℕ) → l ≤ 8 → (a : Result ℕ Fault) (es es_now : List ℕ) → CatalogueSays bs s l a es es_now
     → length bs < 10 ^ 20 → length es < 10 ^ 20 → length es_now ≡ length es → BytesIn es_now
-    → (r : Printed) (out out_now : List ℕ) → TextSays a es_now r out out_now → SurveyTextSays bs s l (length es) r out out_now
+    → (r : Option ℕ) (out out_now : List ℕ) → TextSays a es_now r out out_now → SurveyTextSays bs s l (length es) r out out_now
 survey_text_made bs s l low a es es_now says small =
     list_text_made (survey_refusal bs s l) (OftenIn bs s) (figures_of bs) l (λ e. low) (omega (arith, drawing_low bs s l))
     a es es_now says

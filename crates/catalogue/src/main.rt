@@ -3,29 +3,29 @@
 
 mod text; // text.rt: the text of a survey's usual catalogue
 
-use survey_input::input::{INPUT_BYTES, Input, read_survey};
+use std::io::Write;
+use survey_input::input::{INPUT_BYTES, ReadFailed, read_survey};
 use text::{ENTRY_BYTES, TEXT_BYTES, whole_text};
 
-const STDOUT: i32 = 1;
-
-const STDERR: i32 = 2;
-
 // Prints the text of the survey. No contract can say what is written: what is handed over is the text's first n bytes.
-fn print(survey: &[u8]) {
+fn print(rt: &HostRuntime, survey: &[u8]) {
     let mut entries = [0u8; ENTRY_BYTES];
     let mut text = [0u8; TEXT_BYTES];
     let n = whole_text(survey, &mut entries, &mut text);
-    if !io::write_all(STDOUT, &text[..n]) {
-        io::write_all(STDERR, b"catalogue: writing failed\n");
+    if rt.stdout().write_all(&text[..n]).is_err() {
+        tell(rt, "writing failed");
     }
+}
+
+// Tells on standard error what failed; where that fails too, nobody is left to tell.
+fn tell(rt: &HostRuntime, failure: &str) {
+    let _ = eprintln!(rt; "catalogue: {failure}");
 }
 
 fn main(rt: HostRuntime) {
     let mut input = [0u8; INPUT_BYTES];
     match read_survey(&mut rt.stdin(), &mut input) {
-        Input::Bytes(n) => print(&input[..n]),
-        Input::Failed => {
-            io::write_all(STDERR, b"catalogue: reading failed\n");
-        }
+        Ok(n) => print(&rt, &input[..n]),
+        Err(ReadFailed) => tell(&rt, "reading failed"),
     }
 }

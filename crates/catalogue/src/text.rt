@@ -3,7 +3,6 @@ ghost use Rattle.std.specs.Prelude.{length};
 ghost use Rattle.catalogue.specs.SurveyText.{UsualTextSays, ProgramText};
 
 use mining::catalogue::usual_catalogue;
-use printing::answer::Printed;
 use printing::text::write_text;
 
 // The entries of the usual catalogue.
@@ -13,14 +12,14 @@ pub const ENTRY_BYTES: usize = 67080;
 pub const TEXT_BYTES: usize = 263680;
 
 // Makes the text of the survey's usual catalogue in front of the lent bytes.
-fn usual_text(survey: &[u8], entries: &mut [u8], text: &mut [u8]) -> Printed
+fn usual_text(survey: &[u8], entries: &mut [u8], text: &mut [u8]) -> Option<usize>
     ensures { UsualTextSays survey.now (length entries.old) result text.old text.new }
 {
     let answer = usual_catalogue(survey, entries);
     write_text(answer, entries, text)
 }
 
-// The same in the program's own bytes, and the number of bytes that the text has. TooShort never comes: every text fits.
+// The same in the program's own bytes, and the number of bytes that the text has. None never comes: every text fits.
 pub fn whole_text(
     survey: &[u8],
     entries: &mut [u8; ENTRY_BYTES],
@@ -28,8 +27,5 @@ pub fn whole_text(
 ) -> usize
     ensures { ProgramText survey.now result text.old text.new }
 {
-    match usual_text(survey, entries, text) {
-        Printed::Bytes(n) => n,
-        Printed::TooShort => 0,
-    }
+    usual_text(survey, entries, text).unwrap()
 }

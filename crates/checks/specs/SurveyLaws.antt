@@ -1,5 +1,5 @@
 -- A survey's length, and a walk over its drawings: the refusal by the tests made. Assumes nothing.
-use Rattle.std.specs.Prelude.{◌≡◌, List, ℕ, ◌+◌, ◌%◌, ◌≤◌, ◌<◌, length}
+use Rattle.std.specs.Prelude.{◌≡◌, List, ℕ, ◌+◌, ◌%◌, ◌≤◌, ◌<◌, length, Ok, Err}
 use Rattle.std.proofs.Common.{sym, ◌∙◌, add-one}
 use Rattle.std.proofs.Math.Path.{ap}
 use native.Mathlib.Omega.{arith}
@@ -8,7 +8,6 @@ use Rattle.laws.specs.Rows.{row, rows_left, left_start, left_next, left_end}
 use Rattle.graphs.specs.Drawing.{drawing_refusal}
 use Rattle.graphs.specs.Survey.{Refusal, refusal, records_in, length_refusal, drawings_refusal, bytes_refusal, drawing_count}
 use Rattle.records.specs.declared.refusal.Refusal as held_refusal
-use Rattle.records.specs.declared.survey.SurveyChecked.TheVariants.{Accepted, Refused}
 use Rattle.records.specs.Refusals.{number_of}
 use Rattle.records.specs.Surveys.{SurveyAnswer}
 
@@ -67,8 +66,8 @@ module _ (bs : List ℕ) where
 
 -- AN ANSWER that refuses, and one that accepts
 module _ (told : Refusal) (bs : List ℕ) where
-  pub answer_refused : (r : held_refusal.Refusal) (d : ℕ) → refusal (number_of r) d ≡ told → SurveyAnswer told bs (Refused r d)
+  pub answer_refused : (r : held_refusal.Refusal) (d : ℕ) → refusal (number_of r) d ≡ told → SurveyAnswer told bs (Err record { refusal = r; drawing = d })
   answer_refused r d e = record { refusal = e; drawings = λ n q. let z : ◌≡◌ {A = ℕ} 0 1 = cc in absurd (omega arith) }
 
-  pub answer_accepted : (n : ℕ) → n ≡ drawing_count bs → refusal 0 0 ≡ told → SurveyAnswer told bs (Accepted n)
+  pub answer_accepted : (n : ℕ) → n ≡ drawing_count bs → refusal 0 0 ≡ told → SurveyAnswer told bs (Ok n)
   answer_accepted n h e = record { refusal = e; drawings = λ k q. let z : n ≡ k = cc in sym z ∙ h }

@@ -9,9 +9,10 @@ use drawing_checks::cables::check_cables;
 use drawing_checks::reached::all_reached;
 use drawing_checks::zeros::all_zero;
 use records::drawing::Drawing;
-use records::refusal::{Checked, Refusal};
+use records::refusal::Refusal;
 
 // Whether the kind bytes past the last device's and the cable bytes past the last cable's are zero.
+#[tactic(auto, using(crate::proofs::Places::unused_places))]
 fn unused_zero(drawing: &[u8], counts: Drawing) -> bool
     requires { CountsWithin drawing.now counts }
     ensures { result ≡ unused_zero drawing.now }
@@ -23,33 +24,30 @@ fn unused_zero(drawing: &[u8], counts: Drawing) -> bool
 }
 
 // The first reason to refuse the rest of a drawing whose cables are sound: the unused bytes, then whether it is connected.
-fn check_rest(drawing: &[u8], counts: Drawing) -> Checked
+#[tactic(auto, unfolding(records::specs::Drawings::rest_refusal))]
+fn check_rest(drawing: &[u8], counts: Drawing) -> Result<(), Refusal>
     requires { SoundCables drawing.now counts }
     ensures { checked_number result ≡ rest_refusal drawing.now }
 {
     if !unused_zero(drawing, counts) {
-        return Checked::Refused(Refusal::UnusedByte);
+        return Err(Refusal::UnusedByte);
     }
-    if all_reached(drawing, counts) {
-        Checked::Accepted
-    } else {
-        Checked::Refused(Refusal::NotConnected)
+    if !all_reached(drawing, counts) {
+        return Err(Refusal::NotConnected);
     }
+    Ok(())
 }
 
 // The first reason to refuse a drawing, place by place as the paper lists them.
-pub fn check_drawing(drawing: &[u8]) -> Checked
+#[tactic(auto, using(crate::proofs::Places::drawing_places))]
+pub fn check_drawing(drawing: &[u8]) -> Result<(), Refusal>
     ensures { checked_number result ≡ drawing_refusal drawing.now }
 {
     if drawing.len() != Drawing::BYTES {
-        return Checked::Refused(Refusal::DrawingLength);
+        return Err(Refusal::DrawingLength);
     }
     let counts = Drawing::counted(drawing);
-    if let Checked::Refused(r) = counts.check_counts() {
-        return Checked::Refused(r);
-    }
-    if let Checked::Refused(r) = check_cables(drawing, counts.devices, counts.cables) {
-        return Checked::Refused(r);
-    }
+    counts.check_counts()?;
+    check_cables(drawing, counts.devices, counts.cables)?;
     check_rest(drawing, counts)
 }

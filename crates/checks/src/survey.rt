@@ -6,44 +6,41 @@ ghost use Rattle.records.specs.Surveys.{SurveyAnswer};
 
 use crate::drawing::check_drawing;
 use records::drawing::Drawing;
-use records::refusal::{Checked, Refusal};
-use records::survey::{Survey, SurveyChecked};
+use records::refusal::{Fault, Refusal};
+use records::survey::Survey;
 
 // The length place alone, which opening a survey checks too: whole drawings, and neither none nor too many.
-pub fn check_length(survey: &[u8]) -> Checked
+#[tactic(auto, unfolding(graphs::specs::Survey::length_refusal))]
+pub fn check_length(survey: &[u8]) -> Result<(), Refusal>
     ensures { checked_number result ≡ length_refusal survey.now }
 {
     if survey.len() % Drawing::BYTES != 0 {
-        return Checked::Refused(Refusal::DrawingLength);
+        return Err(Refusal::DrawingLength);
     }
     let drawings = Survey::counted(survey).drawings;
-    if drawings < Survey::LEAST_DRAWINGS || Survey::MOST_DRAWINGS < drawings {
-        return Checked::Refused(Refusal::SurveyLength);
+    if !(Survey::LEAST_DRAWINGS..=Survey::MOST_DRAWINGS).contains(&drawings) {
+        return Err(Refusal::SurveyLength);
     }
-    Checked::Accepted
+    Ok(())
 }
 
 // The first reason to refuse a drawing of a survey: the lower drawing is checked fully before the next.
-fn check_drawings(survey: &[u8]) -> SurveyChecked
+fn check_drawings(survey: &[u8]) -> Result<usize, Fault>
     ensures { SurveyAnswer (drawings_refusal 0 (records_in survey.now)) survey.now result }
 {
-    let drawings = Survey::counted(survey).drawings;
-    for d in 0..drawings {
-        let at = Drawing::BYTES * d;
-        let end = at + Drawing::BYTES;
-        if let Checked::Refused(r) = check_drawing(&survey[at..end]) {
-            return SurveyChecked::Refused(r, d);
+    for (drawing, record) in survey.chunks_exact(Drawing::BYTES).enumerate() {
+        if let Err(refusal) = check_drawing(record) {
+            return Err(Fault { refusal, drawing });
         }
     }
-    SurveyChecked::Accepted(drawings)
+    Ok(Survey::counted(survey).drawings)
 }
 
 // The first reason to refuse a survey: its length, then its drawings.
-pub fn check_survey(survey: &[u8]) -> SurveyChecked
+#[tactic(auto, using(crate::proofs::Places::survey_places))]
+pub fn check_survey(survey: &[u8]) -> Result<usize, Fault>
     ensures { SurveyAnswer (bytes_refusal survey.now) survey.now result }
 {
-    if let Checked::Refused(r) = check_length(survey) {
-        return SurveyChecked::Refused(r, 0);
-    }
+    check_length(survey)?;
     check_drawings(survey)
 }

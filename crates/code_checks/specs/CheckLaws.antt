@@ -1,7 +1,7 @@
 -- A code checked record by record: what the records left give is what all give. Assumes nothing.
 use Rattle.std.proofs.Math.Path.{◌≡◌, refl, ap}
 use Rattle.std.proofs.Common.{sym, ◌∙◌, add-one, arith}
-use Rattle.std.specs.Prelude.{Bool, ◌||◌, ℕ, suc, ◌+◌, ◌/◌, ◌%◌, ◌≤◌, ◌<◌, ltb, eqb}
+use Rattle.std.specs.Prelude.{Bool, ◌||◌, ℕ, suc, ◌+◌, ◌/◌, ◌%◌, ◌≤◌, ◌<◌, ltb, eqb, Result, Ok, Err, ⊤}
 use Rattle.std.proofs.Math.Bool.{true, false, not, cond}
 use mathlib.Core.List.{List, [], ◌∷◌, map}
 use Rattle.std.proofs.Math.ListN.{length}
@@ -11,8 +11,6 @@ use Rattle.laws.specs.Rows.{row, rows_left, left_start, left_next, left_end}
 use Rattle.codes.specs.Code.{Rec, Reading, fresh, rec_in, recs_in, step_good, kinds_match, stepped, rows_refusal, code_refusal, code_records}
 use Rattle.records.specs.declared.refusal.Refusal.{Refusal}
 use Rattle.records.specs.declared.refusal.Refusal.TheVariants as refusal
-use Rattle.records.specs.declared.refusal.Checked.{Checked}
-use Rattle.records.specs.declared.refusal.Checked.TheVariants.{Accepted, Refused}
 use Rattle.records.specs.Refusals.{checked_number, number_positive, or_else}
 use Rattle.readings.specs.declared.reading.Reading as held
 use Rattle.readings.specs.Readings as readings
@@ -27,11 +25,11 @@ use Rattle.readings.specs.Readings.{
 }
 
 -- THE PAPER'S NUMBER of what a check says
-pub no_number : (c : Checked) → checked_number c ≡ 0 → c ≡ Accepted
-no_number Accepted e = refl
-no_number (Refused x) e = absurd (omega (arith, number_positive x))
+pub no_number : (c : Result ⊤ Refusal) → checked_number c ≡ 0 → c ≡ Ok tt
+no_number (Ok _) e = refl
+no_number (Err x) e = absurd (omega (arith, number_positive x))
 
-pub choice_number : (t : Bool) (a b : Checked) → checked_number (cond t a b) ≡ cond t (checked_number a) (checked_number b)
+pub choice_number : (t : Bool) (a b : Result ⊤ Refusal) → checked_number (cond t a b) ≡ cond t (checked_number a) (checked_number b)
 choice_number true a b = refl
 choice_number false a b = refl
 
@@ -49,28 +47,28 @@ code_checked_number bs = go (eqb (length bs) 0 || (ltb 100 (length bs) || not (e
   where
     go :
         (t : Bool)
-        → checked_number (or_else (cond t (Refused refusal.CodeLength) Accepted) (rows_checked 0 fresh (code_records bs)))
+        → checked_number (or_else (cond t (Err refusal.CodeLength) (Ok tt)) (rows_checked 0 fresh (code_records bs)))
         ≡ cond t 9 (rows_refusal fresh (code_records bs))
     go true = refl
     go false = rows_checked_number 0 fresh (code_records bs)
 
 -- THE LENGTH decides, or else the records do
 module _ (bs : List ℕ) where
-  pub code_length_refused : (r : Refusal) → code_length_checked bs ≡ Refused r → code_checked bs ≡ Refused r
+  pub code_length_refused : (r : Refusal) → code_length_checked bs ≡ Err r → code_checked bs ≡ Err r
   unfolding code_checked
   code_length_refused r e = rw e
 
-  length_accepted : code_length_checked bs ≡ Accepted → code_checked bs ≡ rows_checked 0 fresh (code_records bs)
+  length_accepted : code_length_checked bs ≡ Ok tt → code_checked bs ≡ rows_checked 0 fresh (code_records bs)
   unfolding code_checked
   length_accepted e = rw e
 
-  length_most : code_length_checked bs ≡ Accepted → length bs ≤ 100
+  length_most : code_length_checked bs ≡ Ok tt → length bs ≤ 100
   unfolding code_length_checked
   length_most e = go (eqb (length bs) 0 || (ltb 100 (length bs) || not (eqb (length bs % 5) 0))) refl e
     where
       go :
           (t : Bool) → (eqb (length bs) 0 || (ltb 100 (length bs) || not (eqb (length bs % 5) 0))) ≡ t
-          → cond t (Refused refusal.CodeLength) Accepted ≡ Accepted → length bs ≤ 100
+          → cond t (Err refusal.CodeLength) (Ok (tt {0})) ≡ Ok (tt {0}) → length bs ≤ 100
       go true p q = let z : ◌≡◌ {A = ℕ} 0 1 = cc in absurd (omega arith)
       go false p q =
           let s = or_none (eqb (length bs) 0) (ltb 100 (length bs) || not (eqb (length bs % 5) 0)) p in
@@ -83,7 +81,7 @@ module _ (bs : List ℕ) where
   checked_record k = rec_in (row 5 k bs)
 
   -- what the records from k on give, after those before k
-  unfoldable pub checked_from : (k : ℕ) → Reading → Checked
+  unfoldable pub checked_from : (k : ℕ) → Reading → Result ⊤ Refusal
   checked_from k x = rows_checked k x (map rec_in (rows_left 5 (length bs / 5) bs k))
 
   checked_start : rows_checked 0 fresh (code_records bs) ≡ checked_from 0 fresh
@@ -92,11 +90,11 @@ module _ (bs : List ℕ) where
 
   module _ (k : ℕ) (x : Reading) where
     module _ (some : k < length bs / 5) where
-      pub checked_step : step_good x (checked_record k) ≡ false → checked_from k x ≡ Refused (refusal.Step k)
+      pub checked_step : step_good x (checked_record k) ≡ false → checked_from k x ≡ Err (refusal.Step k)
       unfolding checked_from rows_checked
       checked_step e = rw (left_next 5 (length bs / 5) bs k some) (simp e)
 
-      pub checked_kind : step_good x (checked_record k) ≡ true → kinds_match x (checked_record k) ≡ false → checked_from k x ≡ Refused
+      pub checked_kind : step_good x (checked_record k) ≡ true → kinds_match x (checked_record k) ≡ false → checked_from k x ≡ Err
           (refusal.Kind k)
       unfolding checked_from rows_checked
       checked_kind e f = rw (left_next 5 (length bs / 5) bs k some) (simp (e, f))
@@ -107,7 +105,7 @@ module _ (bs : List ℕ) where
       unfolding checked_from rows_checked
       checked_next e f = rw (left_next 5 (length bs / 5) bs k some) (simp (e, f) (rw add-one))
 
-    checked_end : length bs / 5 ≤ k → checked_from k x ≡ Accepted
+    checked_end : length bs / 5 ≤ k → checked_from k x ≡ Ok tt
     unfolding checked_from rows_checked
     checked_end h = rw (left_end 5 (length bs / 5) bs k h)
 
@@ -118,7 +116,7 @@ module _ (bs : List ℕ) where
     pub count : h.code.count ≡ k
     pub left : code_checked bs ≡ checked_from k (as_reading h)
 
-  pub read_start : code_length_checked bs ≡ Accepted → (h : held.Reading) → NotBegun h → Read 0 h
+  pub read_start : code_length_checked bs ≡ Ok tt → (h : held.Reading) → NotBegun h → Read 0 h
   read_start e h n =
       record {
         most = length_most bs e;
@@ -140,5 +138,8 @@ module _ (bs : List ℕ) where
             ∙ ap (checked_from (k + 1)) (ap (stepped (as_reading h)) (sym is) ∙ sym s.is);
       }
 
-  pub read_end : (k : ℕ) (h : held.Reading) → length bs / 5 ≤ k → Read k h → code_checked bs ≡ Accepted
+  pub read_end : (k : ℕ) (h : held.Reading) → length bs / 5 ≤ k → Read k h → code_checked bs ≡ Ok tt
   read_end k h none p = p.left ∙ checked_end k (as_reading h) none
+
+-- what the loop over the records goes by
+pub ruleset steps_read = (code_length_refused, checked_step, checked_kind, read_next, read_end)

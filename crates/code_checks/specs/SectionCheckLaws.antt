@@ -1,5 +1,5 @@
 -- A code checked: the number of what is said, and the lone device's one record. Rests on CheckLaws. Assumes nothing.
-use Rattle.std.specs.Prelude.{◌≡◌, refl, Bool, ◌&&◌, not, ℕ, ◌/◌, ◌≤◌, eqb}
+use Rattle.std.specs.Prelude.{◌≡◌, refl, Bool, ◌&&◌, not, ℕ, ◌/◌, ◌≤◌, eqb, Ok}
 use Rattle.std.proofs.Common.{sym, ap, ◌∙◌, arith}
 use Rattle.std.proofs.Math.Bool.{true, false, cond}
 use mathlib.Core.List.{List, [], ◌∷◌}
@@ -11,7 +11,6 @@ use Rattle.laws.specs.Rows.{rows, row, row_zero}
 use Rattle.codes.specs.Code.{Rec, rec_in, recs_in, code_records, code_refusal}
 use Rattle.codes.specs.SectionCode.{lone_row, lone_refusal, lone_bytes, records_refusal, records_good, section_code_refusal}
 use Rattle.codes.specs.SectionBytes.{accepted_section_code}
-use Rattle.records.specs.declared.refusal.Checked.TheVariants.{Accepted}
 use Rattle.records.specs.Refusals.{checked_number}
 use Rattle.readings.specs.Readings.{code_checked}
 use Rattle.code_checks.specs.SectionChecks.{lone_checked, section_code_checked}
@@ -36,14 +35,14 @@ module _ (bs : List ℕ) where
       go false = code_checked_number bs
 
   -- a code that is accepted has no refusal, and one without a refusal is accepted
-  pub section_checked_accepted : section_code_checked bs ≡ Accepted → section_code_refusal bs ≡ 0
+  pub section_checked_accepted : section_code_checked bs ≡ Ok tt → section_code_refusal bs ≡ 0
   section_checked_accepted e = sym section_checked_number ∙ ap checked_number e
 
-  pub section_accepted_checked : section_code_refusal bs ≡ 0 → section_code_checked bs ≡ Accepted
+  pub section_accepted_checked : section_code_refusal bs ≡ 0 → section_code_checked bs ≡ Ok tt
   section_accepted_checked fine = no_number (section_code_checked bs) (section_checked_number ∙ fine)
 
   -- and has at most 20 records
-  pub section_checked_few : section_code_checked bs ≡ Accepted → length (code_records bs) ≤ 20
+  pub section_checked_few : section_code_checked bs ≡ Ok tt → length (code_records bs) ≤ 20
   unfolding records_good
   section_checked_few e =
       let n = length (code_records bs) in

@@ -7,11 +7,12 @@ ghost use Rattle.readings.specs.Readings.{code_length_checked, code_checked};
 ghost use Rattle.code_checks.specs.SectionChecks.{lone_checked, section_code_checked};
 
 use code_records::record::Record;
-use readings::reading::{Reading, Step};
+use readings::reading::Reading;
 use records::code::Code;
-use records::refusal::{Checked, Refusal};
+use records::refusal::Refusal;
 
 // Whether a code is read as a lone device's: one record, from device 0 to itself.
+#[tactic(auto, using(crate::specs::SectionCheckLaws::not_five, crate::specs::SectionCheckLaws::five_lone))]
 pub fn is_lone(code: &[u8]) -> bool
     ensures { result ≡ lone_bytes code.now }
 {
@@ -23,54 +24,55 @@ pub fn is_lone(code: &[u8]) -> bool
 }
 
 // Such a record has no cable, and the device's kind twice.
-fn check_lone(code: &[u8]) -> Checked
+#[tactic(auto, using(crate::specs::SectionCheckLaws::five_checked), unfolding(crate::specs::SectionChecks::lone_checked))]
+fn check_lone(code: &[u8]) -> Result<(), Refusal>
     requires { length code.now ≡ 5 }
     ensures { result ≡ lone_checked (code_records code.now) }
 {
     let only = Record::at(code, 0);
     if only.c != 0 {
-        return Checked::Refused(Refusal::Step(0));
+        return Err(Refusal::Step(0));
     }
     if only.ki != only.kj {
-        return Checked::Refused(Refusal::Kind(0));
+        return Err(Refusal::Kind(0));
     }
-    Checked::Accepted
+    Ok(())
 }
 
 // Whether the bytes are whole records, and neither none nor too many.
-fn check_length(code: &[u8]) -> Checked
+#[tactic(auto, unfolding(readings::specs::Readings::code_length_checked))]
+fn check_length(code: &[u8]) -> Result<(), Refusal>
     ensures { result ≡ code_length_checked code.now }
 {
     let length = code.len();
     if length == 0 || Code::BYTES < length || length % Code::RECORD_BYTES != 0 {
-        return Checked::Refused(Refusal::CodeLength);
+        return Err(Refusal::CodeLength);
     }
-    Checked::Accepted
+    Ok(())
 }
 
 // The first reason to refuse a DFS code: its length, then record by record that it is no step, or that a kind differs.
-fn check_steps(code: &[u8]) -> Checked
+#[tactic(auto, using(crate::specs::CheckLaws::steps_read), unfolding(readings::specs::Readings::StepSays))]
+fn check_steps(code: &[u8]) -> Result<(), Refusal>
     ensures { result ≡ code_checked code.now }
 {
-    if let Checked::Refused(r) = check_length(code) {
-        return Checked::Refused(r);
-    }
+    check_length(code)?;
     let mut reading = Reading::new();
+    // By number and not by chunks of five: a refusal tells the record's number, and `Record::at` takes it.
     for k in 0..code.len() / Code::RECORD_BYTES {
         let next = Record::at(code, k);
-        let Step::From(place) = reading.step(next) else {
-            return Checked::Refused(Refusal::Step(k));
-        };
+        let place = reading.step(next).ok_or(Refusal::Step(k))?;
         if !reading.kinds_match(next) {
-            return Checked::Refused(Refusal::Kind(k));
+            return Err(Refusal::Kind(k));
         }
         reading = reading.stepped(place, next);
     }
-    Checked::Accepted
+    Ok(())
 }
 
 // The first reason to refuse a code.
-pub fn check_code(code: &[u8]) -> Checked
+#[tactic(auto, using(codes::specs::SectionBytes::lone_bytes_parts, crate::specs::SectionCheckLaws::checked_lone, crate::specs::SectionCheckLaws::checked_cabled))]
+pub fn check_code(code: &[u8]) -> Result<(), Refusal>
     ensures { result ≡ section_code_checked code.now }
 {
     if is_lone(code) {

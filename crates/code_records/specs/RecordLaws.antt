@@ -1,15 +1,15 @@
 -- The order of two records, comparison by comparison, and what it tells. Rests on the order of codes. Assumes nothing.
 use Rattle.std.specs.Prelude.{◌≡◌, Bool, ◌&&◌, ◌||◌, cond, List, ℕ, ◌+◌, ◌*◌, ◌<◌, ◌≤◌, ltb, eqb, get_or}
+use Rattle.std.specs.declared.cmp.Ordering.{Ordering}
+use Rattle.std.specs.declared.cmp.Ordering.TheVariants.{Less, Equal, Greater}
 use Rattle.std.proofs.Math.Path.{refl}
 use Rattle.std.proofs.Common.{sym, ap, ap₂, ◌∙◌, arith}
 use Rattle.std.proofs.Math.Bool.{true, false}
-use borrow.Author.Tests.{ltb-true, ltb-false, eqb-true, lt-ltb, le-ltb, eq-eqb, ne_eqb}
+use borrow.Author.Tests.{ltb-true, eqb-true, lt-ltb, le-ltb, eq-eqb}
 use Rattle.laws.specs.Tests.{true_and_false, false_unless, same_truth}
 use Rattle.laws.specs.Rows.{row, row_at}
 use Rattle.codes.specs.Code.{Rec, rec_in, forward, kinds_before, rec_before_by, rec_same, rec_before}
 use Rattle.codes.specs.CodeOrder.{rec_eq, rec_same_test, not_before, kinds_order}
-use Rattle.code_records.specs.declared.«record».Order.{Order}
-use Rattle.code_records.specs.declared.«record».Order.TheVariants.{Before, Equal, After}
 use Rattle.code_records.specs.Records.{order_of, numbers_order, then, labels_order}
 
 -- RECORD k of a code, byte by byte
@@ -26,16 +26,17 @@ record_read bs k =
     first = omega arith
 
 -- AN ORDER from two tests: equal, and before
-abbrev decided : (same before : Bool) → Order
-decided e l = cond e Equal (cond l Before After)
+abbrev decided : (same before : Bool) → Ordering
+decided e l = cond e Equal (cond l Less Greater)
 
 numbers_decided : (a b : ℕ) → numbers_order a b ≡ decided (eqb a b) (ltb a b)
-numbers_decided a b = go (ltb a b) (ltb b a) refl refl
+numbers_decided a b = go (ltb a b) (eqb a b) refl refl
   where
-    go : (p q : Bool) → ltb a b ≡ p → ltb b a ≡ q → cond p Before (cond q After Equal) ≡ decided (eqb a b) p
-    go true q e f = rw (ne_eqb a b (λ z. omega (arith, ltb-true a b e)))
-    go false true e f = rw (ne_eqb a b (λ z. omega (arith, ltb-true b a f)))
-    go false false e f = rw (eq-eqb a b (omega (arith, ltb-false a b e, ltb-false b a f)))
+    go : (p q : Bool) → ltb a b ≡ p → eqb a b ≡ q → cond p Less (cond q Equal Greater) ≡ decided q p
+    go true true e f = absurd (omega (arith, ltb-true a b e, eqb-true a b f))
+    go true false e f = refl
+    go false true e f = refl
+    go false false e f = refl
 
 -- lexicographic: the first decides, and where it finds no difference the next
 then_decided :
@@ -49,7 +50,7 @@ equal_not_less : (a b : ℕ) → eqb a b ≡ true → ltb a b ≡ false
 equal_not_less a b e = le-ltb a b (omega (arith, eqb-true a b e))
 
 numbers_then :
-    (a b : ℕ) (o : Order) (f m : Bool) → o ≡ decided f m
+    (a b : ℕ) (o : Ordering) (f m : Bool) → o ≡ decided f m
     → then (numbers_order a b) o ≡ decided (eqb a b && f) (ltb a b || (eqb a b && m))
 numbers_then a b o f m e =
     ap₂ then (numbers_decided a b) e ∙ then_decided (eqb a b) (ltb a b) f m (equal_not_less a b)
@@ -100,27 +101,27 @@ module _ (a b : Rec) where
   differs : (forward a ≡ forward b → ⊥) → rec_same a b ≡ false
   differs n = false_unless (rec_same a b) (λ e. n (ap forward (rec_same_test.to a b e)))
 
-  pub order_backward_forward : a.j ≤ a.i → b.i < b.j → Before ≡ order_of a b
+  pub order_backward_forward : a.j ≤ a.i → b.i < b.j → Less ≡ order_of a b
   unfolding order_of rec_before_by forward
   order_backward_forward p q =
       rw (differs (λ e. true_and_false (lt-ltb b.i b.j q) (sym e ∙ le-ltb a.i a.j p)), le-ltb a.i a.j p, lt-ltb b.i b.j q)
 
-  pub order_forward_backward : a.i < a.j → b.j ≤ b.i → After ≡ order_of a b
+  pub order_forward_backward : a.i < a.j → b.j ≤ b.i → Greater ≡ order_of a b
   unfolding order_of rec_before_by forward
   order_forward_backward p q =
       rw (differs (λ e. true_and_false (lt-ltb a.i a.j p) (e ∙ le-ltb b.i b.j q)), lt-ltb a.i a.j p, le-ltb b.i b.j q)
 
   -- WHAT THE ORDER TELLS
-  data Told : Order → Type 0 where
-    told_before : rec_before a b ≡ true → Told Before
+  data Told : Ordering → Type 0 where
+    told_before : rec_before a b ≡ true → Told Less
     told_equal : a ≡ b → Told Equal
-    told_after : rec_before b a ≡ true → Told After
+    told_after : rec_before b a ≡ true → Told Greater
 
   differs_back : rec_same a b ≡ false → rec_same b a ≡ false
   differs_back p =
       false_unless (rec_same b a) (λ e. true_and_false (rec_same_test.at a) (rw (rec_same_test.to b a e) at p))
 
-  told : (o : Order) → order_of a b ≡ o → Told o
+  told : (o : Ordering) → order_of a b ≡ o → Told o
   unfolding order_of
   told o e = rw (← e) (go (rec_same a b) (rec_before a b) refl refl)
     where
@@ -129,10 +130,10 @@ module _ (a b : Rec) where
       go false true p q = told_before q
       go false false p q = told_after (not_before kinds_before kinds_order a b q (differs_back p))
 
-  pub order_before : order_of a b ≡ Before → rec_before a b ≡ true
-  order_before e = go (told Before e)
+  pub order_before : order_of a b ≡ Less → rec_before a b ≡ true
+  order_before e = go (told Less e)
     where
-      go : Told Before → rec_before a b ≡ true
+      go : Told Less → rec_before a b ≡ true
       go (told_before p) = p
 
   pub order_equal : order_of a b ≡ Equal → a ≡ b
@@ -141,8 +142,8 @@ module _ (a b : Rec) where
       go : Told Equal → a ≡ b
       go (told_equal p) = p
 
-  pub order_after : order_of a b ≡ After → rec_before b a ≡ true
-  order_after e = go (told After e)
+  pub order_after : order_of a b ≡ Greater → rec_before b a ≡ true
+  order_after e = go (told Greater e)
     where
-      go : Told After → rec_before b a ≡ true
+      go : Told Greater → rec_before b a ≡ true
       go (told_after p) = p

@@ -3,9 +3,10 @@ ghost use Rattle.std.specs.Prelude.{◌≡◌, ◌+◌, ◌*◌, ◌≤◌, ◌<
 ghost use Rattle.laws.specs.Rows.{row};
 ghost use Rattle.codes.specs.Code.{rec_in};
 ghost use Rattle.codes.specs.RecordPut.{RecordPut};
-ghost use Rattle.code_records.specs.Records.{as_rec, order_of, numbers_order, labels_order, then};
+ghost use Rattle.code_records.specs.Records.{as_rec, order_of, labels_order};
 
 use records::code::Code;
+use std::cmp::Ordering;
 
 // The devices i and j that a cable joins, the kind of i, the kind of the cable, the kind of j.
 #[derive(Clone, Copy)]
@@ -15,40 +16,6 @@ pub struct Record {
     pub ki: u8,
     pub c: u8,
     pub kj: u8,
-}
-
-// Which of two comes first.
-#[derive(Drop)]
-pub enum Order {
-    Before,
-    Equal,
-    After,
-}
-
-impl Order {
-    // What decides where the first of two comparisons finds no difference.
-    fn then(self, next: Order) -> Self
-        ensures { result ≡ then self next }
-    {
-        match self {
-            Order::Before => Order::Before,
-            Order::Equal => next,
-            Order::After => Order::After,
-        }
-    }
-}
-
-// The smaller number first.
-fn compare_numbers(a: u8, b: u8) -> Order
-    ensures { result ≡ numbers_order a b }
-{
-    if a < b {
-        return Order::Before;
-    }
-    if b < a {
-        return Order::After;
-    }
-    Order::Equal
 }
 
 impl Record {
@@ -68,30 +35,32 @@ impl Record {
     }
 
     // The labels alone: kind of i, then cable kind, then kind of j.
-    fn order_of_labels(self, other: Record) -> Order
+    #[tactic(auto, unfolding(crate::specs::Records::labels_order))]
+    fn order_of_labels(self, other: Record) -> Ordering
         ensures { result ≡ labels_order (as_rec self) (as_rec other) }
     {
-        let cables = compare_numbers(self.c, other.c).then(compare_numbers(self.kj, other.kj));
-        compare_numbers(self.ki, other.ki).then(cables)
+        let cables = self.c.cmp(&other.c).then(self.kj.cmp(&other.kj));
+        self.ki.cmp(&other.ki).then(cables)
     }
 
     // Backward before forward; two backward: smaller j first; two forward: greater i first; then the labels.
-    pub fn order(self, other: Record) -> Order
+    #[tactic(auto, using(crate::specs::RecordLaws::order_forward_backward, crate::specs::RecordLaws::order_backward_forward))]
+    pub fn order(self, other: Record) -> Ordering
         ensures { result ≡ order_of (as_rec self) (as_rec other) }
     {
         let labels = self.order_of_labels(other);
         if self.i < self.j {
             if other.i < other.j {
-                let forward = compare_numbers(self.j, other.j).then(labels);
-                return compare_numbers(other.i, self.i).then(forward);
+                let forward = self.j.cmp(&other.j).then(labels);
+                return other.i.cmp(&self.i).then(forward);
             }
-            return Order::After;
+            return Ordering::Greater;
         }
         if other.i < other.j {
-            return Order::Before;
+            return Ordering::Less;
         }
-        let backward = compare_numbers(self.i, other.i).then(labels);
-        compare_numbers(self.j, other.j).then(backward)
+        let backward = self.i.cmp(&other.i).then(labels);
+        self.j.cmp(&other.j).then(backward)
     }
 }
 

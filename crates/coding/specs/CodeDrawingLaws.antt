@@ -1,5 +1,5 @@
 -- Coding a drawing, step by step: the bytes of a code copied one by one, and the answer by the tests made. Assumes nothing.
-use Rattle.std.specs.Prelude.{◌≡◌, Bool, true, false, cond, ◌⊎◌, ltb, eqb, get_or, set, take, drop}
+use Rattle.std.specs.Prelude.{◌≡◌, Bool, true, false, cond, ◌⊎◌, ltb, eqb, get_or, set, take, drop, Result, Ok, Err}
 use Rattle.std.proofs.Math.Path.{refl, sym, ap}
 use Rattle.std.proofs.Common.{◌∙◌, inl, inr, add-one, arith, length-take-le, take-suc, drop-cons}
 use mathlib.Core.List.{List, [], ◌∷◌, ◌++◌}
@@ -25,8 +25,6 @@ use Rattle.records.specs.declared.refusal.Refusal.TheVariants.{OutputLength}
 use Rattle.records.specs.Refusals.{number_of, number_positive}
 use Rattle.records.specs.RefusalLaws.{first_some, first_none}
 use Rattle.records.specs.Codes.{code_bytes}
-use Rattle.code_checks.specs.declared.answer.Written.{Written}
-use Rattle.code_checks.specs.declared.answer.Written.TheVariants.{Bytes, Refused}
 use Rattle.code_checks.specs.Answers.{numbers, written_numbers}
 use Rattle.laws.specs.Lent.{in_front}
 use Rattle.readings.specs.Readings.{held_records, RecordHeld}
@@ -94,7 +92,7 @@ module _ (xs : List ℕ) (A : ByteRecord xs) where
 
 -- THE ANSWER, refusal by refusal
 module _ (xs o : List ℕ) where
-  back : (n : ℕ) (r : Written) → coding_refusal xs o ≡ n → 0 < n → written_numbers r ≡ numbers n 0 → CodeSays xs r o o
+  back : (n : ℕ) (r : Result ℕ Refusal) → coding_refusal xs o ≡ n → 0 < n → written_numbers r ≡ numbers n 0 → CodeSays xs r o o
   unfolding CodeSays CodeAs
   back n r e h w = rw e (go n h w)
     where
@@ -103,10 +101,10 @@ module _ (xs o : List ℕ) where
       go (suc n) h w = unfold CodeAs in record { answer = w; output = refl }
 
   -- 1 to 8
-  pub drawing_turned_back : (f : Refusal) → number_of f ≡ drawing_refusal xs → CodeSays xs (Refused f) o o
+  pub drawing_turned_back : (f : Refusal) → number_of f ≡ drawing_refusal xs → CodeSays xs (Err f) o o
   unfolding coding_refusal
   drawing_turned_back f e =
-      back (number_of f) (Refused f) (first_some (drawing_refusal xs) _ (rw (← e) (number_positive f)) ∙ sym e) (number_positive f) refl
+      back (number_of f) (Err f) (first_some (drawing_refusal xs) _ (rw (← e) (number_positive f)) ∙ sym e) (number_positive f) refl
 
   -- n is the number of records
   module _ (accepted : drawing_refusal xs ≡ 0) (m n : ℕ) (is : m ≡ get_or xs 1 0) (records : n ≡ cond (eqb m 0) 1 m) where
@@ -118,11 +116,11 @@ module _ (xs o : List ℕ) where
     simple = let a = accepted_parts xs accepted in simple_from_test (drawing_in xs) (rw a.device_count a.cables_good)
 
     -- 15
-    pub output_turned_back : length o < 5 * n → CodeSays xs (Refused OutputLength) o o
+    pub output_turned_back : length o < 5 * n → CodeSays xs (Err OutputLength) o o
     unfolding coding_refusal
     output_turned_back h =
         let short : length o < 5 * section_records (drawing_in xs) = rw needed h in
-        back 15 (Refused OutputLength) (first_none _ _ accepted ∙ rw (lt-ltb _ _ short)) (omega arith) refl
+        back 15 (Err OutputLength) (first_none _ _ accepted ∙ rw (lt-ltb _ _ short)) (omega arith) refl
 
     -- the whole answer has room
     module _ (room : 5 * n ≤ length o) (c : Code) (long : length c.records ≡ 100)
@@ -137,7 +135,7 @@ module _ (xs o : List ℕ) where
         omega (arith, code_count),
       )
 
-      pub code_written : (z : List ℕ) → z ≡ in_front (code_bytes c) o → CodeSays xs (Bytes (5 * n)) o z
+      pub code_written : (z : List ℕ) → z ≡ in_front (code_bytes c) o → CodeSays xs (Ok (5 * n)) o z
       unfolding CodeSays CodeAs coding_refusal
       code_written z e =
           let enough : 5 * section_records (drawing_in xs) ≤ length o = rw needed room in
@@ -147,6 +145,6 @@ module _ (xs o : List ℕ) where
           (record {
             code = held_records c;
             least = least;
-            answer = ap Bytes (sym size);
+            answer = ap Ok (sym size);
             output = e ∙ ap (λ (bs : List ℕ). in_front bs o) (code_bytes_are c long code_fits.0);
           })

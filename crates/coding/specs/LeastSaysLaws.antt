@@ -1,6 +1,6 @@
 -- The least test, case by case: a lone device's code, and a DFS code; and what its answer tells. Rests on SectionCodes and LeastAgreements.
 -- Assumes nothing.
-use Rattle.std.specs.Prelude.{◌≡◌, refl, Bool, true, false, cond, List, ◌⊎◌, ℕ, ◌/◌, ◌≤◌, eqb, length}
+use Rattle.std.specs.Prelude.{◌≡◌, refl, Bool, true, false, List, ◌⊎◌, ℕ, ◌/◌, ◌≤◌, eqb, length, Result, Ok, Err, ⊤}
 use Rattle.std.proofs.Common.{sym, ap, ◌∙◌, subst, inl, inr, arith, lit≤, eqb-true}
 use Rattle.std.proofs.lemmas.Bool.{eqb-false}
 use Rattle.laws.specs.Tests.{true_and_false}
@@ -22,17 +22,15 @@ use Rattle.codes.specs.SectionCodes.{
   least_section_unique,
 }
 use Rattle.codes.specs.SectionBytes.{AcceptedAs, accepted_as, section_code_length}
-use Rattle.records.specs.declared.refusal.Checked.{Checked}
-use Rattle.records.specs.declared.refusal.Checked.TheVariants as checked
+use Rattle.records.specs.declared.refusal.Refusal.{Refusal}
 use Rattle.code_checks.specs.declared.answer.Verdict.{Verdict}
-use Rattle.code_checks.specs.declared.answer.Verdict.TheVariants as verdict
 use Rattle.code_checks.specs.Answers.{verdict_agreement}
 use Rattle.code_checks.specs.SectionChecks.{section_code_checked}
 use Rattle.code_checks.specs.SectionCheckLaws.{section_checked_few}
 use Rattle.tables.specs.TableOfCode.{ByteCode, code_pattern}
 use Rattle.least_seen.specs.Betters.{FirstOfStarts}
 use Rattle.least_test.specs.LeastAgreements.{starts_agreement}
-use Rattle.coding.specs.LeastSays.{verdict_of, LeastTold, LeastAnswer, LeastSays}
+use Rattle.coding.specs.LeastSays.{verdict_of, yes, no, LeastTold, LeastAnswer, LeastSays}
 
 -- A LONE DEVICE'S CODE is least
 pub lone_code_least :
@@ -44,10 +42,10 @@ lone_code_least bs fine t = go (accepted_as bs fine)
     go (AcceptedAs.cabled u z) = absurd (true_and_false t u)
 
 -- with its one record it agrees in one
-pub lone_told : (bs : List ℕ) → section_code_refusal bs ≡ 0 → lone_bytes bs ≡ true → LeastTold (code_records bs) (verdict.Yes 1)
+pub lone_told : (bs : List ℕ) → section_code_refusal bs ≡ 0 → lone_bytes bs ≡ true → LeastTold (code_records bs) (Ok (yes 1))
 lone_told bs fine t = go (accepted_as bs fine)
   where
-    go : AcceptedAs bs → LeastTold (code_records bs) (verdict.Yes 1)
+    go : AcceptedAs bs → LeastTold (code_records bs) (Ok (yes 1))
     go (AcceptedAs.lone k u e) =
         record {
           code = code_records bs;
@@ -65,26 +63,21 @@ module _ {bs : List ℕ} (A : ByteCode bs) where
   is_decoded = section_of_rows (code_records bs) good
 
   pub dfs_told : (r : ℕ) {v : Verdict} → FirstOfStarts (code_records bs) (length bs / 5) 0 r → v ≡ verdict_of r (length bs / 5)
-      → LeastTold (code_records bs) v
+      → LeastTold (code_records bs) (Ok v)
   dfs_told r first is =
       let l = least_code_there kinds_before kinds_order (decoded (code_records bs)) (code_pattern A) in
       let n = recs_in_length (length bs / 5) bs in
       let a =
       starts_agreement (code_records bs) good (code_pattern A) l.0 l.1 r
       (subst (λ (m : ℕ). FirstOfStarts (code_records bs) m 0 r) (sym n) first) in
-      record { code = l.0; least = rw is_decoded (least_pattern kinds_before (code_pattern A) l.1); answer = rw (a, n) is }
+      record { code = l.0; least = rw is_decoded (least_pattern kinds_before (code_pattern A) l.1); answer = rw (a, n) (ap Ok is) }
 
 -- WHAT THE ANSWER TELLS: the agreement with the least code
-pub told_agreement : {rs : List Rec} {v : Verdict} (t : LeastTold rs v) → verdict_agreement v ≡ agreement rs t.code
-told_agreement {rs} {v} t = ap verdict_agreement t.answer ∙ go (eqb (agreement rs t.code) (length rs))
-  where
-    go : (b : Bool)
-        → verdict_agreement (cond b (verdict.Yes (agreement rs t.code)) (verdict.No (agreement rs t.code))) ≡ agreement rs t.code
-    go true = refl
-    go false = refl
+pub told_agreement : {rs : List Rec} {v : Result Verdict Refusal} (t : LeastTold rs v) → verdict_agreement v ≡ agreement rs t.code
+told_agreement t = ap verdict_agreement t.answer
 
 -- and, of an accepted code, whether it is that one
-module _ {rs : List Rec} {v : Verdict} (t : LeastTold rs v) (good : records_good rs ≡ true) where
+module _ {rs : List Rec} {v : Result Verdict Refusal} (t : LeastTold rs v) (good : records_good rs ≡ true) where
   sizes : length rs ≡ length t.code
   sizes =
       let s = row_simple rs (row_good_from_test rs good) in
@@ -95,26 +88,26 @@ module _ {rs : List Rec} {v : Verdict} (t : LeastTold rs v) (good : records_good
       ap (agreement rs) (least_section_unique kinds_before kinds_order (section_of rs) t.code rs t.least l) ∙ agreement_itself rs
 
   pub told_least :
-      ((v ≡ verdict.Yes (length rs)) × LeastSection (section_of rs) rs)
-      ⊎ ((v ≡ verdict.No (agreement rs t.code)) × (LeastSection (section_of rs) rs → ⊥))
+      ((v ≡ Ok (yes (length rs))) × LeastSection (section_of rs) rs)
+      ⊎ ((v ≡ Ok (no (agreement rs t.code))) × (LeastSection (section_of rs) rs → ⊥))
   told_least = go (eqb (agreement rs t.code) (length rs)) refl
     where
       go : (b : Bool) → eqb (agreement rs t.code) (length rs) ≡ b
-          → ((v ≡ verdict.Yes (length rs)) × LeastSection (section_of rs) rs)
-          ⊎ ((v ≡ verdict.No (agreement rs t.code)) × (LeastSection (section_of rs) rs → ⊥))
+          → ((v ≡ Ok (yes (length rs))) × LeastSection (section_of rs) rs)
+          ⊎ ((v ≡ Ok (no (agreement rs t.code))) × (LeastSection (section_of rs) rs → ⊥))
       go true e =
           let a = eqb-true (agreement rs t.code) (length rs) e in
           inl (
-            t.answer ∙ rw e (ap verdict.Yes a),
+            t.answer ∙ rw e (ap (λ (k : ℕ). Ok (yes k)) a),
             subst (LeastSection (section_of rs)) (sym (agreement_whole rs t.code sizes a)) t.least,
           )
       go false e = inr (t.answer ∙ rw e, λ l. eqb-false (agreement rs t.code) (length rs) e (itself l))
 
 -- no code agrees in more than 20 records
-pub least_agreement_most : (bs : List ℕ) (v : Verdict) → LeastSays bs v → verdict_agreement v ≤ 20
+pub least_agreement_most : (bs : List ℕ) (v : Result Verdict Refusal) → LeastSays bs v → verdict_agreement v ≤ 20
 least_agreement_most bs v says = go (section_code_checked bs) refl says
   where
-    go : (c : Checked) → section_code_checked bs ≡ c → LeastAnswer c (code_records bs) v → verdict_agreement v ≤ 20
-    go (checked.Refused x) e w = rw w (lit≤ tt)
-    go checked.Accepted e w =
+    go : (c : Result ⊤ Refusal) → section_code_checked bs ≡ c → LeastAnswer c (code_records bs) v → verdict_agreement v ≤ 20
+    go (Err x) e w = rw w (lit≤ tt)
+    go (Ok tt) e w =
         omega (arith, told_agreement w, agreement_first (code_records bs) w.code, section_checked_few bs e)

@@ -8,24 +8,20 @@ ghost use Rattle.readings.specs.Readings.{held_records};
 ghost use Rattle.coding.specs.CodeDrawing.{CodeSays};
 
 use checks::drawing::check_drawing;
-use code_checks::answer::Written;
 use code_records::record::Record;
 use least_code::search::least_code;
 use readings::reading::with_record;
 use records::code::Code;
 use records::drawing::Drawing;
-use records::refusal::{Checked, Refusal};
+use records::refusal::Refusal;
 
 // The records of a code, in front of what is lent; the bytes behind them keep their content.
 fn write_code(code: Code, output: &mut [u8])
     requires { (code.count ≤ 20) × (5 * code.count ≤ length output.old) }
     ensures { output.new ≡ in_front (code_bytes code) output.old }
 {
-    let records = code.records;
     let end = Code::RECORD_BYTES * code.count;
-    for i in 0..end {
-        output[i] = records[i];
-    }
+    output[..end].copy_from_slice(&code.records[..end]);
 }
 
 // The code of a lone device: one record, from device 0 to itself.
@@ -57,21 +53,19 @@ fn section_code(drawing: &[u8], m: usize) -> Code
 fn records_of(m: usize) -> usize
     ensures { result ≡ cond (eqb m 0) 1 m }
 {
-    if m == 0 { 1 } else { m }
+    m.max(1)
 }
 
 // The least code of a drawing: refusals 1 to 8, then 15, else the number of bytes written.
-pub fn code_drawing(drawing: &[u8], output: &mut [u8]) -> Written
+pub fn code_drawing(drawing: &[u8], output: &mut [u8]) -> Result<usize, Refusal>
     ensures { CodeSays drawing.now result output.old output.new }
 {
-    if let Checked::Refused(r) = check_drawing(drawing) {
-        return Written::Refused(r);
-    }
+    check_drawing(drawing)?;
     let m = Drawing::counted(drawing).cables;
     let bytes = Code::RECORD_BYTES * records_of(m);
     if output.len() < bytes {
-        return Written::Refused(Refusal::OutputLength);
+        return Err(Refusal::OutputLength);
     }
     write_code(section_code(drawing, m), output);
-    Written::Bytes(bytes)
+    Ok(bytes)
 }

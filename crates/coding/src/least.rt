@@ -8,7 +8,7 @@ use code_checks::check::{check_code, is_lone};
 use least_test::starts::first_of_starts;
 use records::code::Code;
 use records::drawing::Drawing;
-use records::refusal::Checked;
+use records::refusal::Refusal;
 use tables::table::labels_of_code;
 use tables::twins::twins_of;
 
@@ -16,23 +16,20 @@ use tables::twins::twins_of;
 fn verdict(agreement: usize, records: usize) -> Verdict
     ensures { result ≡ verdict_of agreement records }
 {
-    if agreement == records {
-        Verdict::Yes(agreement)
-    } else {
-        Verdict::No(agreement)
+    Verdict {
+        least: agreement == records,
+        agreement,
     }
 }
 
 // Whether a code is the least of the drawing that it describes, and how far it agrees with the least one. No start is enough before all have
 // told: the first that comes before the code need not be the least.
-pub fn is_least(code: &[u8]) -> Verdict
+pub fn is_least(code: &[u8]) -> Result<Verdict, Refusal>
     ensures { LeastSays code.now result }
 {
-    if let Checked::Refused(r) = check_code(code) {
-        return Verdict::Refused(r);
-    }
+    check_code(code)?;
     if is_lone(code) {
-        return Verdict::Yes(1);
+        return Ok(verdict(1, 1));
     }
     let table = labels_of_code(code);
     let twins = twins_of(&table);
@@ -46,5 +43,5 @@ pub fn is_least(code: &[u8]) -> Verdict
         Drawing::MOST_DEVICES,
         true,
     );
-    verdict(agreement, records)
+    Ok(verdict(agreement, records))
 }

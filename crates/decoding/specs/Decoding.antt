@@ -1,19 +1,17 @@
 -- What decoding answers and leaves, and how its record of 73 bytes is filled. Assumes nothing: these are definitions.
-use Rattle.std.specs.Prelude.{◌≡◌, cond, List, ℕ, ◌+◌, ◌*◌, ◌<◌, ltb, eqb, length, set, replicate}
+use Rattle.std.specs.Prelude.{◌≡◌, cond, List, ℕ, ◌+◌, ◌*◌, ◌<◌, ltb, eqb, length, set, replicate, Result, Ok, Err, ⊤}
 use Rattle.graphs.specs.Drawing.{drawing_bytes}
 use Rattle.codes.specs.Code.{Rec, decoded, code_refusal, code_records}
 use Rattle.codes.specs.SectionCode.{section_code_refusal, section_of}
 use Rattle.records.specs.declared.refusal.Refusal.TheVariants.{OutputLength}
-use Rattle.records.specs.declared.refusal.Checked.{Checked}
-use Rattle.records.specs.declared.refusal.Checked.TheVariants.{Accepted, Refused}
-use Rattle.code_checks.specs.declared.answer.Written.{Written}
+use Rattle.records.specs.declared.refusal.Refusal.{Refusal}
 use Rattle.records.specs.Refusals.{or_else}
 use Rattle.code_checks.specs.Answers.{PutSays}
 use Rattle.code_checks.specs.SectionChecks.{section_code_checked}
 
 -- 9, 10, 11, then 15 where fewer than 73 bytes are lent
-unfoldable pub decode_checked : (code out : List ℕ) → Checked
-decode_checked bs o = or_else (section_code_checked bs) (cond (ltb (length o) 73) (Refused OutputLength) Accepted)
+unfoldable pub decode_checked : (code out : List ℕ) → Result ⊤ Refusal
+decode_checked bs o = or_else (section_code_checked bs) (cond (ltb (length o) 73) (Err OutputLength) (Ok tt))
 
 -- the record of the drawing that a code describes; a code tells no crane, so that byte is 0
 abbrev pub decoded_bytes : (code : List ℕ) → List ℕ
@@ -24,7 +22,7 @@ abbrev pub steps_bytes : (code : List ℕ) → List ℕ
 steps_bytes bs = drawing_bytes 0 (decoded (code_records bs))
 
 -- THE OUTCOME: a refusal, and the output is as it was, or the record in front of the lent bytes
-abbrev pub DecodeSays : (code : List ℕ) → Written → (out out_now : List ℕ) → Type 0
+abbrev pub DecodeSays : (code : List ℕ) → Result ℕ Refusal → (out out_now : List ℕ) → Type 0
 DecodeSays bs r o z = PutSays (decode_checked bs o) (decoded_bytes bs) r o z
 
 -- FILLING A RECORD: device v, of which there are v so far

@@ -1,6 +1,6 @@
 -- Decoding record by record: each record makes the drawing's record that of one record more. Rests on DrawnLaws and on
 -- the rows of codes. Assumes nothing.
-use Rattle.std.specs.Prelude.{◌≡◌, Bool, ℕ, ◌+◌, ◌*◌, ◌-◌, ◌/◌, ◌≤◌, ◌<◌, ltb, length, replicate}
+use Rattle.std.specs.Prelude.{◌≡◌, Bool, ℕ, ◌+◌, ◌*◌, ◌-◌, ◌/◌, ◌≤◌, ◌<◌, ltb, length, replicate, Ok, Err}
 use Rattle.std.proofs.Math.Path.{refl, ap, ap₂}
 use Rattle.std.proofs.Common.{sym, ◌∙◌, add-one, arith}
 use Rattle.std.proofs.Math.Bool.{true, false, cond}
@@ -34,9 +34,7 @@ use Rattle.codes.specs.SectionCodes.{RowGood, row_good_from_test, lone_code_of, 
 use Rattle.codes.specs.SectionBytes.{lone_bytes_parts, accepted_section_code}
 use Rattle.records.specs.declared.refusal.Refusal.{Refusal}
 use Rattle.records.specs.declared.refusal.Refusal.TheVariants.{OutputLength}
-use Rattle.records.specs.declared.refusal.Checked.TheVariants.{Accepted, Refused}
 use Rattle.records.specs.Refusals.{checked_number, first_of}
-use Rattle.code_checks.specs.declared.answer.Written.TheVariants as written
 use Rattle.code_checks.specs.SectionChecks.{section_code_checked}
 use Rattle.decoding.specs.Decoding.{
   decode_checked,
@@ -226,28 +224,31 @@ module _ (bs o : List ℕ) where
   decode_checked_number =
       or_else_number (section_code_checked bs) _ ∙ ap₂ first_of (section_checked_number bs) (short (ltb (length o) 73))
     where
-      short : (t : Bool) → checked_number (cond t (Refused OutputLength) Accepted) ≡ cond t 15 0
+      short : (t : Bool) → checked_number (cond t (Err OutputLength) (Ok tt)) ≡ cond t 15 0
       short true = refl
       short false = refl
 
-  pub decode_refused : (r : Refusal) (z : List ℕ) → section_code_checked bs ≡ Refused r → z ≡ o → DecodeSays bs (written.Refused r) o z
+  pub decode_refused : (r : Refusal) (z : List ℕ) → section_code_checked bs ≡ Err r → z ≡ o → DecodeSays bs (Err r) o z
   unfolding decode_checked
   decode_refused r z e same = record { answer = rw e; output = rw e same }
 
-  pub decode_short : (z : List ℕ) → section_code_checked bs ≡ Accepted → length o < 73 → z ≡ o → DecodeSays bs (written.Refused OutputLength) o z
+  pub decode_short : (z : List ℕ) → section_code_checked bs ≡ Ok tt → length o < 73 → z ≡ o → DecodeSays bs (Err OutputLength) o z
   unfolding decode_checked
   decode_short z e h same = record { answer = rw (e, lt-ltb (length o) 73 h); output = rw (e, lt-ltb (length o) 73 h) same }
 
   -- a code that is accepted describes a drawing of 73 bytes
-  pub decoded_length : section_code_checked bs ≡ Accepted → length (decoded_bytes bs) ≡ 73
+  pub decoded_length : section_code_checked bs ≡ Ok tt → length (decoded_bytes bs) ≡ 73
   decoded_length e = section_length (code_records bs) (accepted_section_code bs (section_checked_accepted bs e)).good
 
   pub decode_written :
-      (z : List ℕ) → section_code_checked bs ≡ Accepted → 73 ≤ length o → z ≡ decoded_bytes bs ++ drop 73 o → DecodeSays bs (written.Bytes 73) o z
+      (z : List ℕ) → section_code_checked bs ≡ Ok tt → 73 ≤ length o → z ≡ decoded_bytes bs ++ drop 73 o → DecodeSays bs (Ok 73) o z
   unfolding decode_checked
   decode_written z e h is =
       let n = decoded_length e in
       record {
-        answer = rw (e, le-ltb (length o) 73 h) (ap written.Bytes (sym n));
+        answer = rw (e, le-ltb (length o) 73 h) (ap Ok (sym n));
         output = rw (e, le-ltb (length o) 73 h) (is ∙ ap (λ (k : ℕ). decoded_bytes bs ++ drop k o) (sym n));
       }
+
+-- which of the two ways a code is drawn
+pub ruleset two_ways = (lone_bytes_parts, steps_accepted, decoded_steps)

@@ -1,6 +1,6 @@
 -- How far two codes agree, over the bytes of the calls: what comparing tells, and what the least test hands on. Rests on AgreementLaws, Comparisons
 -- and Coding. Assumes nothing.
-use Rattle.std.specs.Prelude.{◌≡◌, true, List, ◌++◌, ◌⊎◌, ℕ, ◌*◌, ◌/◌, ◌%◌, ◌≤◌, ◌<◌, length, get_or, take}
+use Rattle.std.specs.Prelude.{◌≡◌, Bool, true, false, cond, ◌+◌, List, ◌++◌, ◌⊎◌, ℕ, ◌*◌, ◌/◌, ◌%◌, ◌≤◌, ◌<◌, length, get_or, take, ⊤, Result, Ok, Err}
 use Rattle.std.proofs.Math.Path.{refl, sym, ap, ap₂}
 use Rattle.std.proofs.Common.{◌∙◌, subst, inl, inr, arith, length-append, eq-eqb}
 use Rattle.std.proofs.Math.Seq.{take-length, take-append_seam}
@@ -21,21 +21,23 @@ use Rattle.codes.specs.CodeBytes.{recs_in_length}
 use Rattle.codes.specs.SectionCode.{section_code_refusal}
 use Rattle.codes.specs.SectionBytes.{accepted_section_code}
 use Rattle.tables.specs.CodeRows.{code_record_at}
-use Rattle.records.specs.declared.refusal.Checked.{Checked}
-use Rattle.code_checks.specs.declared.answer.Verdict.{Verdict}
-use Rattle.code_checks.specs.declared.answer.Verdict.TheVariants as verdict
-use Rattle.code_checks.specs.declared.answer.Compared.{Compared}
-use Rattle.code_checks.specs.declared.answer.Compared.TheVariants as compared
-use Rattle.code_checks.specs.Answers.{verdict_agreement, verdict_numbers, compared_agreement, compared_numbers}
+use Rattle.code_checks.specs.Answers.{order_number, verdict_agreement, verdict_numbers, compared_agreement, compared_numbers}
 use Rattle.code_checks.specs.SectionCheckLaws.{section_accepted_checked}
 use Rattle.coding.specs.LeastSays.{LeastTold, LeastAnswer, LeastSays}
 use Rattle.coding.specs.LeastSaysLaws.{told_agreement, told_least}
 use Rattle.comparing.specs.Comparing.{CompareSays}
 use Rattle.demands.specs.Terms.{order_digit, least_digit}
 use Rattle.demands.specs.Comparisons.{figure_is, before_if, after_if, if_before, if_after}
+use Rattle.records.specs.declared.refusal.Refusal.{Refusal}
+use Rattle.code_checks.specs.declared.answer.Verdict.{Verdict}
+use Rattle.coding.specs.LeastSays as verdict
+use Rattle.code_checks.specs.declared.answer.Comparison.{Comparison}
+use Rattle.comparing.specs.Comparing.{order_answer}
+use Rattle.std.specs.declared.cmp.Ordering.{Ordering}
+use Rattle.std.specs.declared.cmp.Ordering.TheVariants.{Less, Equal, Greater}
 
 -- TWO ACCEPTED CODES that are compared
-module _ (xs ys : List ℕ) (r : Compared) (first : section_code_refusal xs ≡ 0) (second : section_code_refusal ys ≡ 0)
+module _ (xs ys : List ℕ) (r : Result Comparison Refusal) (first : section_code_refusal xs ≡ 0) (second : section_code_refusal ys ≡ 0)
     (says : CompareSays xs ys r) where
   a : compared_agreement r ≡ agreement (code_records xs) (code_records ys)
   a = figure_is xs ys r first second says
@@ -67,7 +69,7 @@ module _ (xs ys : List ℕ) (r : Compared) (first : section_code_refusal xs ≡ 
       omega (arith, n, figure_within.0, k)
 
   -- either way round it is the same
-  pub figure_either_way : (s : Compared) → CompareSays ys xs s → compared_agreement s ≡ compared_agreement r
+  pub figure_either_way : (s : Result Comparison Refusal) → CompareSays ys xs s → compared_agreement s ≡ compared_agreement r
   figure_either_way s back =
       figure_is ys xs s second first back ∙ agreement_symmetric (code_records ys) (code_records xs) ∙ sym a
 
@@ -110,13 +112,13 @@ module _ (xs ys : List ℕ) (r : Compared) (first : section_code_refusal xs ≡ 
     by_records = agreement_decides kinds_before x (code_records xs) (code_records ys) more more_too ∙ ap₂ rec_before x_is y_is
 
     pub figure_decides :
-        (r ≡ compared.Before (compared_agreement r)
+        (r ≡ Ok (order_answer Less (compared_agreement r))
         → rec_before (rec_in (row 5 (compared_agreement r) xs)) (rec_in (row 5 (compared_agreement r) ys)) ≡ true)
         × (rec_before (rec_in (row 5 (compared_agreement r) xs)) (rec_in (row 5 (compared_agreement r) ys)) ≡ true
-        → r ≡ compared.Before (compared_agreement r))
+        → r ≡ Ok (order_answer Less (compared_agreement r)))
     figure_decides = (
       λ e. rw a (sym by_records ∙ if_before xs ys r first second says (compared_agreement r) e),
-      λ e. before_if xs ys r first second says (by_records ∙ rw a at e) ∙ ap compared.Before (sym a),
+      λ e. before_if xs ys r first second says (by_records ∙ rw a at e) ∙ ap (λ (k : ℕ). Ok (order_answer Less k)) (sym a),
     )
 
     back_records : before (code_records ys) (code_records xs) ≡ rec_before (rec_in (row 5 k ys)) (rec_in (row 5 k xs))
@@ -128,46 +130,52 @@ module _ (xs ys : List ℕ) (r : Compared) (first : section_code_refusal xs ≡ 
         ∙ ap₂ rec_before y_is x_is
 
     pub figure_decides_after :
-        (r ≡ compared.After (compared_agreement r)
+        (r ≡ Ok (order_answer Greater (compared_agreement r))
         → rec_before (rec_in (row 5 (compared_agreement r) ys)) (rec_in (row 5 (compared_agreement r) xs)) ≡ true)
         × (rec_before (rec_in (row 5 (compared_agreement r) ys)) (rec_in (row 5 (compared_agreement r) xs)) ≡ true
-        → r ≡ compared.After (compared_agreement r))
+        → r ≡ Ok (order_answer Greater (compared_agreement r)))
     figure_decides_after = (
       λ e. rw a (sym back_records ∙ if_after xs ys r first second says (compared_agreement r) e),
-      λ e. after_if xs ys r first second says (back_records ∙ rw a at e) ∙ ap compared.After (sym a),
+      λ e. after_if xs ys r first second says (back_records ∙ rw a at e) ∙ ap (λ (k : ℕ). Ok (order_answer Greater k)) (sym a),
     )
 
 -- THE LEAST TEST says yes exactly if the whole code agrees
-module _ (bs : List ℕ) (v : Verdict) (fine : section_code_refusal bs ≡ 0) (says : LeastSays bs v) where
+module _ (bs : List ℕ) (v : Result Verdict Refusal) (fine : section_code_refusal bs ≡ 0) (says : LeastSays bs v) where
   told : LeastTold (code_records bs) v
-  told = subst (λ (c : Checked). LeastAnswer c (code_records bs) v) (section_accepted_checked bs fine) says
+  told = subst (λ (c : Result ⊤ Refusal). LeastAnswer c (code_records bs) v) (section_accepted_checked bs fine) says
 
   counted : length (code_records bs) ≡ length bs / 5
   counted = recs_in_length (length bs / 5) bs
 
-  pub yes_whole : (k : ℕ) → v ≡ verdict.Yes k → 5 * k ≡ length bs
+  pub yes_whole : (k : ℕ) → v ≡ Ok (verdict.yes k) → 5 * k ≡ length bs
   yes_whole k e = go (told_least told (accepted_section_code bs fine).good)
     where
-      go : {n : ℕ} {P N : Type 0} → ((v ≡ verdict.Yes (length (code_records bs))) × P) ⊎ ((v ≡ verdict.No n) × N) → 5 * k ≡ length bs
+      go : {n : ℕ} {P N : Type 0} → ((v ≡ Ok (verdict.yes (length (code_records bs)))) × P) ⊎ ((v ≡ Ok (verdict.no n)) × N) → 5 * k ≡ length bs
       go (inl y) = omega (arith, counted, (accepted_section_code bs fine).whole, ap verdict_agreement (sym e ∙ y.0))
       go (inr n) = absurd (omega (arith, ap least_digit (sym e ∙ n.0)))
 
-  pub whole_yes : 5 * verdict_agreement v ≡ length bs → v ≡ verdict.Yes (length bs / 5)
+  pub whole_yes : 5 * verdict_agreement v ≡ length bs → v ≡ Ok (verdict.yes (length bs / 5))
   whole_yes e =
       let n : agreement (code_records bs) told.code ≡ length (code_records bs) =
       omega (arith, told_agreement told, counted, (accepted_section_code bs fine).whole) in
-      told.answer ∙ rw (eq-eqb _ _ n) (ap verdict.Yes (n ∙ counted))
+      told.answer ∙ rw (eq-eqb _ _ n) (ap (λ (k : ℕ). Ok (verdict.yes k)) (n ∙ counted))
 
 -- FROM C: the count has the agreement above eight bits, and in them what else is told
 pub compared_count_tells :
-    (r : Compared) → ((compared_numbers r).count / 256 ≡ compared_agreement r) × ((compared_numbers r).count % 256 ≡ order_digit r)
-compared_count_tells (compared.Equal k) = (omega arith, omega arith)
-compared_count_tells (compared.Before k) = (omega arith, omega arith)
-compared_count_tells (compared.After k) = (omega arith, omega arith)
-compared_count_tells (compared.Refused x) = (refl, refl)
+    (r : Result Comparison Refusal) → ((compared_numbers r).count / 256 ≡ compared_agreement r) × ((compared_numbers r).count % 256 ≡ order_digit r)
+compared_count_tells (Ok c) = go c.order c.agreement
+  where
+    go : (o : Ordering) (k : ℕ) → ((256 * k + order_number o) / 256 ≡ k) × ((256 * k + order_number o) % 256 ≡ order_number o)
+    go Equal k = (omega arith, omega arith)
+    go Less k = (omega arith, omega arith)
+    go Greater k = (omega arith, omega arith)
+compared_count_tells (Err x) = (refl, refl)
 
 pub verdict_count_tells :
-    (v : Verdict) → ((verdict_numbers v).count / 256 ≡ verdict_agreement v) × ((verdict_numbers v).count % 256 ≡ least_digit v)
-verdict_count_tells (verdict.Yes k) = (omega arith, omega arith)
-verdict_count_tells (verdict.No k) = (omega arith, omega arith)
-verdict_count_tells (verdict.Refused x) = (refl, refl)
+    (v : Result Verdict Refusal) → ((verdict_numbers v).count / 256 ≡ verdict_agreement v) × ((verdict_numbers v).count % 256 ≡ least_digit v)
+verdict_count_tells (Ok v) = go v.least v.agreement
+  where
+    go : (b : Bool) (k : ℕ) → ((256 * k + cond b 1 0) / 256 ≡ k) × ((256 * k + cond b 1 0) % 256 ≡ cond b 1 0)
+    go true k = (omega arith, omega arith)
+    go false k = (omega arith, omega arith)
+verdict_count_tells (Err x) = (refl, refl)

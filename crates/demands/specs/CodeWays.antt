@@ -1,6 +1,6 @@
 -- From a drawing to its code and from a code to its drawing, over the bytes that a caller sees. Rests on least codes and on what
 -- a code describes. Assumes nothing.
-use Rattle.std.specs.Prelude.{◌≡◌, refl, true, List, ℕ, ◌*◌, ◌≤◌, length, drop}
+use Rattle.std.specs.Prelude.{◌≡◌, refl, true, List, ℕ, ◌*◌, ◌≤◌, length, drop, ⊤, Result, Ok}
 use Rattle.std.proofs.Common.{ap, ◌∙◌, take_at, le-ltb}
 use Rattle.graphs.specs.Drawing.{Drawing, drawing_in, crane_in, drawing_bytes, drawing_refusal, byte_list, accepted}
 use Rattle.graphs.specs.Map.{Same}
@@ -14,11 +14,7 @@ use Rattle.codes.specs.Decoded.{rows_bytes}
 use Rattle.codes.specs.SectionCode.{section_code_refusal, section_records, records_good, section_of, SectionCode}
 use Rattle.codes.specs.SectionCodes.{row_good_from_test, row_simple, row_section, row_coded}
 use Rattle.codes.specs.SectionBytes.{accepted_section_code, read_again, records_accepted}
-use Rattle.records.specs.declared.refusal.Checked.{Checked}
-use Rattle.records.specs.declared.refusal.Checked.TheVariants.{Accepted}
 use Rattle.records.specs.RefusalLaws.{first_none}
-use Rattle.code_checks.specs.declared.answer.Written.{Written}
-use Rattle.code_checks.specs.declared.answer.Written.TheVariants.{Bytes}
 use Rattle.laws.specs.Lent.{in_front}
 use Rattle.code_checks.specs.Answers.{put_answer, put_bytes}
 use Rattle.code_checks.specs.CheckLaws.{no_number}
@@ -27,6 +23,7 @@ use Rattle.decoding.specs.Decoding.{decode_checked, DecodeSays}
 use Rattle.decoding.specs.DecodingLaws.{decode_checked_number, row_few}
 use Rattle.demands.specs.Coding.{equal_bytes_exactly_same}
 use Rattle.demands.specs.Terms.{written_bytes, Mapped, Drawn}
+use Rattle.records.specs.declared.refusal.Refusal.{Refusal}
 
 -- THE MAP OF DEMAND 3, written out
 module _ (d e : Drawing) (here : EndsInRange d) (there : EndsInRange e) where
@@ -39,14 +36,14 @@ module _ (d e : Drawing) (here : EndsInRange d) (there : EndsInRange e) where
   same_from_mapped m = (m.0, (same_by_means d e m.0 here there).1 m.1)
 
 -- DECODING an accepted code into bytes enough
-module _ (bs : List ℕ) (r : Written) (o z : List ℕ) (fine : section_code_refusal bs ≡ 0) (room : 73 ≤ length o) (says : DecodeSays bs r o z) where
+module _ (bs : List ℕ) (r : Result ℕ Refusal) (o z : List ℕ) (fine : section_code_refusal bs ≡ 0) (room : 73 ≤ length o) (says : DecodeSays bs r o z) where
   abbrev rs : List Rec
   rs = code_records bs
 
   good : records_good rs ≡ true
   good = (accepted_section_code bs fine).good
 
-  decoding_accepted : decode_checked bs o ≡ Accepted
+  decoding_accepted : decode_checked bs o ≡ Ok tt
   decoding_accepted =
       no_number (decode_checked bs o) (decode_checked_number bs o ∙ first_none (section_code_refusal bs) _ fine ∙ rw (le-ltb _ _ room))
 
@@ -60,11 +57,11 @@ module _ (bs : List ℕ) (r : Written) (o z : List ℕ) (fine : section_code_ref
         output = output;
       }
     where
-      answer : r ≡ Bytes (length (drawing_bytes 0 (section_of rs)))
-      answer = says.answer ∙ ap (λ (c : Checked). put_answer c (drawing_bytes 0 (section_of rs))) decoding_accepted
+      answer : r ≡ Ok (length (drawing_bytes 0 (section_of rs)))
+      answer = says.answer ∙ ap (λ (c : Result ⊤ Refusal). put_answer c (drawing_bytes 0 (section_of rs))) decoding_accepted
 
       output : z ≡ in_front (drawing_bytes 0 (section_of rs)) o
-      output = says.output ∙ ap (λ (c : Checked). put_bytes c (drawing_bytes 0 (section_of rs)) o) decoding_accepted
+      output = says.output ∙ ap (λ (c : Result ⊤ Refusal). put_bytes c (drawing_bytes 0 (section_of rs)) o) decoding_accepted
 
       bytes : written_bytes r z ≡ drawing_bytes 0 (section_of rs)
       bytes = rw (answer, output) (take_at (drawing_bytes 0 (section_of rs)) (drop (length (drawing_bytes 0 (section_of rs))) o)
@@ -83,7 +80,7 @@ module _ (bs : List ℕ) (r : Written) (o z : List ℕ) (fine : section_code_ref
     drawn_coded = rw code_drawn.drawing (row_coded rs good)
 
 -- EVERY CODE of a drawing decodes to that drawing
-pub code_decodes : (xs : List ℕ) (rs : List Rec) → accepted xs ≡ true → SectionCode (drawing_in xs) rs → (r : Written) (o z : List ℕ)
+pub code_decodes : (xs : List ℕ) (rs : List Rec) → accepted xs ≡ true → SectionCode (drawing_in xs) rs → (r : Result ℕ Refusal) (o z : List ℕ)
     → 73 ≤ length o → DecodeSays (rec_bytes rs) r o z → Mapped (drawing_in (written_bytes r z)) (drawing_in xs)
 code_decodes xs rs a c r o z room says =
     let simple = (accepted_section xs a).simple in
@@ -96,7 +93,7 @@ code_decodes xs rs a c r o z room says =
 -- EQUAL BYTES exactly when there is such a map
 module _ (xs ys : List ℕ) (a : accepted xs ≡ true) (b : accepted ys ≡ true)
     (o p : List ℕ) (room : 5 * section_records (drawing_in xs) ≤ length o) (space : 5 * section_records (drawing_in ys) ≤ length p)
-    (z w : List ℕ) (r s : Written) (first : CodeSays xs r o z) (second : CodeSays ys s p w) where
+    (z w : List ℕ) (r s : Result ℕ Refusal) (first : CodeSays xs r o z) (second : CodeSays ys s p w) where
   pub equal_bytes_exactly_mapped :
       (written_bytes r z ≡ written_bytes s w → Mapped (drawing_in xs) (drawing_in ys))
       × (Mapped (drawing_in xs) (drawing_in ys) → written_bytes r z ≡ written_bytes s w)

@@ -1,7 +1,7 @@
 -- What the calls say of each other: two drawings get equal bytes exactly when they are the same, coding what a code
 -- decodes to gives it back exactly when it is least, and the least test answers yes exactly then and tells how far the two codes agree. Rests on
 -- what each call says and on codes. Assumes nothing.
-use Rattle.std.specs.Prelude.{◌≡◌, refl, Bool, true, false, cond, List, ◌⊎◌, ℕ, ◌*◌, ◌/◌, ◌≤◌, ltb, eqb, length, drop}
+use Rattle.std.specs.Prelude.{◌≡◌, refl, true, cond, List, ◌⊎◌, ℕ, ◌*◌, ◌/◌, ◌≤◌, ltb, eqb, length, drop, ⊤, Result, Ok, Err}
 use Rattle.std.proofs.Common.{sym, ◌∙◌, inl, inr, arith, take_at}
 use Rattle.std.proofs.Math.Path.{ap, subst}
 use borrow.Author.Tests.{le-ltb, eqb-true}
@@ -25,14 +25,8 @@ use Rattle.codes.specs.SectionBytes.{
   records_accepted,
   section_code_length,
 }
-use Rattle.records.specs.declared.refusal.Checked.{Checked}
-use Rattle.records.specs.declared.refusal.Checked.TheVariants.{Accepted, Refused}
 use Rattle.records.specs.Refusals.{checked_number}
 use Rattle.records.specs.RefusalLaws.{first_none}
-use Rattle.code_checks.specs.declared.answer.Written.{Written}
-use Rattle.code_checks.specs.declared.answer.Written.TheVariants as written
-use Rattle.code_checks.specs.declared.answer.Verdict.{Verdict}
-use Rattle.code_checks.specs.declared.answer.Verdict.TheVariants as verdict
 use Rattle.laws.specs.Lent.{in_front}
 use Rattle.code_checks.specs.Answers.{put_answer, put_bytes, verdict_agreement, verdict_numbers}
 use Rattle.code_checks.specs.SectionChecks.{section_code_checked}
@@ -42,12 +36,15 @@ use Rattle.decoding.specs.Decoding.{decode_checked, DecodeSays}
 use Rattle.coding.specs.LeastSays.{LeastTold, LeastAnswer, LeastSays}
 use Rattle.coding.specs.LeastSaysLaws.{told_agreement, told_least}
 use Rattle.demands.specs.Terms.{written_bytes, least_digit}
+use Rattle.records.specs.declared.refusal.Refusal.{Refusal}
+use Rattle.code_checks.specs.declared.answer.Verdict.{Verdict}
+use Rattle.coding.specs.LeastSays as verdict
 
-pub bytes_in_front : (bs o z : List ℕ) (r : Written) → r ≡ written.Bytes (length bs) → z ≡ in_front bs o → written_bytes r z ≡ bs
+pub bytes_in_front : (bs o z : List ℕ) (r : Result ℕ Refusal) → r ≡ Ok (length bs) → z ≡ in_front bs o → written_bytes r z ≡ bs
 bytes_in_front bs o z r e f = rw (e, f) (take_at bs (drop (length bs) o) (length bs) refl)
 
 -- A CALL OF CODING that has room answers with the least code
-module _ (xs : List ℕ) (r : Written) (o z : List ℕ) (fine : drawing_refusal xs ≡ 0) (room : 5 * section_records (drawing_in xs) ≤ length o)
+module _ (xs : List ℕ) (r : Result ℕ Refusal) (o z : List ℕ) (fine : drawing_refusal xs ≡ 0) (room : 5 * section_records (drawing_in xs) ≤ length o)
     (says : CodeSays xs r o z) where
   pub code_is_least : LeastWritten (drawing_in xs) r o z
   unfolding CodeSays CodeAs coding_refusal
@@ -67,7 +64,7 @@ accepted_refusal xs a = eqb-true (drawing_refusal xs) 0 (and_split (byte_list xs
 -- TWO ACCEPTED DRAWINGS get equal bytes exactly when they are the same
 module _ (xs ys : List ℕ) (a : accepted xs ≡ true) (b : accepted ys ≡ true)
     (o p : List ℕ) (room : 5 * section_records (drawing_in xs) ≤ length o) (space : 5 * section_records (drawing_in ys) ≤ length p)
-    (z w : List ℕ) (r s : Written) (first : CodeSays xs r o z) (second : CodeSays ys s p w) where
+    (z w : List ℕ) (r s : Result ℕ Refusal) (first : CodeSays xs r o z) (second : CodeSays ys s p w) where
   pub equal_bytes_exactly_same :
       (written_bytes r z ≡ written_bytes s w → Same (drawing_in xs) (drawing_in ys))
       × (Same (drawing_in xs) (drawing_in ys) → written_bytes r z ≡ written_bytes s w)
@@ -84,18 +81,13 @@ module _ (xs ys : List ℕ) (a : accepted xs ≡ true) (b : accepted ys ≡ true
       (λ e. t.0 (sym cs ∙ e ∙ ds), λ m. cs ∙ t.1 m ∙ sym ds)
 
 -- THE LEAST TEST refuses with the paper's number, exactly where the code is refused
-pub least_refusal : (bs : List ℕ) (v : Verdict) → LeastSays bs v → (verdict_numbers v).refusal ≡ section_code_refusal bs
+pub least_refusal : (bs : List ℕ) (v : Result Verdict Refusal) → LeastSays bs v → (verdict_numbers v).refusal ≡ section_code_refusal bs
 least_refusal bs v h = go (section_code_checked bs) h ∙ section_checked_number bs
   where
-    go : (c : Checked) → LeastAnswer c (code_records bs) v → (verdict_numbers v).refusal ≡ checked_number c
-    go (Refused x) e = ap (λ (w : Verdict). (verdict_numbers w).refusal) e
-    go Accepted t =
-        ap (λ (w : Verdict). (verdict_numbers w).refusal) t.answer
-        ∙ answered (agreement (code_records bs) t.code) (eqb (agreement (code_records bs) t.code) (length (code_records bs)))
-      where
-        answered : (k : ℕ) (b : Bool) → (verdict_numbers (cond b (verdict.Yes k) (verdict.No k))).refusal ≡ 0
-        answered k true = refl
-        answered k false = refl
+    go : (c : Result ⊤ Refusal) → LeastAnswer c (code_records bs) v → (verdict_numbers v).refusal ≡ checked_number c
+    go (Err x) e = ap (λ (w : Result Verdict Refusal). (verdict_numbers w).refusal) e
+    go (Ok _) t =
+        ap (λ (w : Result Verdict Refusal). (verdict_numbers w).refusal) t.answer
 
 -- A CODE of bytes that is not refused
 module _ (bs : List ℕ) (bytes : byte_list bs ≡ true) (fine : section_code_refusal bs ≡ 0) where
@@ -109,19 +101,19 @@ module _ (bs : List ℕ) (bytes : byte_list bs ≡ true) (fine : section_code_re
   unfolding rows_bytes
   described = row_section rs parts.good (rw parts.bytes bytes)
 
-  checked_fine : section_code_checked bs ≡ Accepted
+  checked_fine : section_code_checked bs ≡ Ok tt
   checked_fine = section_accepted_checked bs fine
 
   -- decoded into 73 bytes or more, then coded into as many bytes as the code has, or more
   module _ (o p : List ℕ) (room : 73 ≤ length o) (space : length bs ≤ length p)
-      (z w : List ℕ) (r s : Written) (decoding : DecodeSays bs r o z) (coding : CodeSays (written_bytes r z) s p w) where
+      (z w : List ℕ) (r s : Result ℕ Refusal) (decoding : DecodeSays bs r o z) (coding : CodeSays (written_bytes r z) s p w) where
     drawn : written_bytes r z ≡ drawing_bytes 0 (section_of rs)
     unfolding decode_checked
     drawn =
-        let c : decode_checked bs o ≡ Accepted = rw (checked_fine, le-ltb _ _ room) in
+        let c : decode_checked bs o ≡ Ok tt = rw (checked_fine, le-ltb _ _ room) in
         bytes_in_front (drawing_bytes 0 (section_of rs)) o z r
-        (decoding.answer ∙ ap (λ (k : Checked). put_answer k (drawing_bytes 0 (section_of rs))) c)
-        (decoding.output ∙ ap (λ (k : Checked). put_bytes k (drawing_bytes 0 (section_of rs)) o) c)
+        (decoding.answer ∙ ap (λ (k : Result ⊤ Refusal). put_answer k (drawing_bytes 0 (section_of rs))) c)
+        (decoding.output ∙ ap (λ (k : Result ⊤ Refusal). put_bytes k (drawing_bytes 0 (section_of rs)) o) c)
 
     back : drawing_in (written_bytes r z) ≡ section_of rs
     back = ap drawing_in drawn ∙ drawing_in_bytes 0 (section_of rs) described.devices_high described.cables_high
@@ -153,20 +145,20 @@ module _ (bs : List ℕ) (bytes : byte_list bs ≡ true) (fine : section_code_re
     )
 
     -- THE LEAST TEST answers yes exactly then, and its figure is the agreement with the code that comes back
-    module _ (v : Verdict) (h : LeastSays bs v) where
+    module _ (v : Result Verdict Refusal) (h : LeastSays bs v) where
       told : LeastTold rs v
-      told = subst (λ (c : Checked). LeastAnswer c rs v) checked_fine h
+      told = subst (λ (c : Result ⊤ Refusal). LeastAnswer c rs v) checked_fine h
 
-      pub yes_exactly_back : ((k : ℕ) → v ≡ verdict.Yes k → written_bytes s w ≡ bs) × (written_bytes s w ≡ bs → v ≡ verdict.Yes (length rs))
+      pub yes_exactly_back : ((k : ℕ) → v ≡ Ok (verdict.yes k) → written_bytes s w ≡ bs) × (written_bytes s w ≡ bs → v ≡ Ok (verdict.yes (length rs)))
       yes_exactly_back = go (told_least told parts.good)
         where
-          no_yes : {k n : ℕ} → verdict.No n ≡ verdict.Yes k → ⊥
+          no_yes : {k n : ℕ} → ◌≡◌ {A = Result Verdict Refusal} (Ok (verdict.no n)) (Ok (verdict.yes k)) → ⊥
           no_yes e = omega (arith, ap least_digit e)
 
           go :
               {n : ℕ}
-              → ((v ≡ verdict.Yes (length rs)) × LeastSection (section_of rs) rs) ⊎ ((v ≡ verdict.No n) × (LeastSection (section_of rs) rs → ⊥))
-              → ((k : ℕ) → v ≡ verdict.Yes k → written_bytes s w ≡ bs) × (written_bytes s w ≡ bs → v ≡ verdict.Yes (length rs))
+              → ((v ≡ Ok (verdict.yes (length rs))) × LeastSection (section_of rs) rs) ⊎ ((v ≡ Ok (verdict.no n)) × (LeastSection (section_of rs) rs → ⊥))
+              → ((k : ℕ) → v ≡ Ok (verdict.yes k) → written_bytes s w ≡ bs) × (written_bytes s w ≡ bs → v ≡ Ok (verdict.yes (length rs)))
           go (inl y) = (λ k e. back_exactly_least.1 y.1, λ e. y.0)
           go (inr n) = (λ k e. absurd (no_yes (sym n.0 ∙ e)), λ e. absurd (n.1 (back_exactly_least.0 e)))
 

@@ -3,7 +3,7 @@
 -- is what the contract of a public entry says of its answer: `CodeSays`, `DecodeSays`, `CatalogueSays` and so on, from C `CodeReturns` and its
 -- fellows. It holds of whatever the call answers (r, v or t), where the lent output was o before the call and is z after it. Terms.antt has the terms
 -- that only these statements need. That an answer and every lent byte follow from the input is in Determined.antt. Assumes nothing.
-use Rattle.std.specs.Prelude.{◌≡◌, true, false, cond, List, [], ◌∷◌, ◌++◌, ℕ, ◌*◌, ◌/◌, ◌%◌, ◌≤◌, ◌<◌, eqb, length, get_or, set, take, replicate}
+use Rattle.std.specs.Prelude.{◌≡◌, true, false, cond, List, [], ◌∷◌, ◌++◌, ℕ, ◌*◌, ◌/◌, ◌%◌, ◌≤◌, ◌<◌, eqb, length, get_or, set, take, replicate, Bool, Option, Some, None, ⊤, Result, Ok, Err}
 use Rattle.std.proofs.Common.{sym, ◌∙◌, lit≤}
 use Rattle.std.specs.Borrow.{Bor}
 use Rattle.laws.specs.Counting.{Different}
@@ -39,26 +39,13 @@ use Rattle.codes.specs.SectionBytes.{records_accepted}
 use Rattle.growth.specs.Sizes.{entry_size}
 use Rattle.growth.specs.Catalogue.{Entry, Catalogue, entries_within, entries_up_to}
 use Rattle.records.specs.declared.refusal.Refusal.TheVariants as refusal
-use Rattle.records.specs.declared.refusal.Checked.{Checked}
-use Rattle.records.specs.declared.refusal.Checked.TheVariants.{Accepted, Refused}
-use Rattle.records.specs.declared.survey.SurveyChecked.{SurveyChecked}
-use Rattle.records.specs.declared.catalogued.Catalogued.{Catalogued}
-use Rattle.records.specs.declared.catalogued.Catalogued.TheVariants as catalogued
-use Rattle.records.specs.declared.catalogued.Catalogued.TheVariants.{Entries}
 use Rattle.records.specs.Catalogued.{catalogued_refusal}
-use Rattle.records.specs.declared.list_checked.ListChecked.{ListChecked}
-use Rattle.records.specs.declared.list_checked.ListChecked.TheVariants as list_check
 use Rattle.records.specs.ListsChecked.{list_refusal}
-use Rattle.records.specs.Refusals.{checked_number, first_of}
+use Rattle.records.specs.Refusals.{checked_number, first_of, lone_fault}
 use Rattle.records.specs.Surveys.{SurveyAnswer}
 use Rattle.code_checks.specs.SectionChecks.{section_code_checked}
 use Rattle.reader.specs.declared.reader.Opened.{Opened}
 use Rattle.reader.specs.Readers.{Opens}
-use Rattle.code_checks.specs.declared.answer.Written.{Written}
-use Rattle.code_checks.specs.declared.answer.Verdict.{Verdict}
-use Rattle.code_checks.specs.declared.answer.Verdict.TheVariants as verdict
-use Rattle.code_checks.specs.declared.answer.Compared.{Compared}
-use Rattle.code_checks.specs.declared.answer.Compared.TheVariants as compared
 use Rattle.code_checks.specs.Answers.{
   written_numbers,
   verdict_agreement,
@@ -70,10 +57,6 @@ use Rattle.coding.specs.CodeDrawing.{CodeSays, LeastWritten}
 use Rattle.decoding.specs.Decoding.{DecodeSays}
 use Rattle.coding.specs.LeastSays.{LeastSays}
 use Rattle.comparing.specs.Comparing.{CompareSays}
-use Rattle.matching.specs.declared.answer.Matched.{Matched}
-use Rattle.matching.specs.declared.answer.Matched.TheVariants as matched
-use Rattle.matching.specs.declared.answer.Sameness.{Sameness}
-use Rattle.matching.specs.declared.answer.Sameness.TheVariants as sameness
 use Rattle.matching.specs.MatchAnswers.{match_refusal, match_count, same_refusal, same_value, MatchSays, SameSays}
 use Rattle.mining.specs.UsualSettings.{usual, former}
 use Rattle.mining.specs.CatalogueSays.{CatalogueSays}
@@ -81,7 +64,6 @@ use Rattle.mining.specs.CheckSays.{CheckSays}
 use Rattle.books.specs.Book.{BookThere}
 use Rattle.books.specs.Books.{book_there}
 use Rattle.pattern_book.specs.BookSays.{BookSays}
-use Rattle.printing.specs.declared.answer.Printed.{Printed}
 use Rattle.text_lines.specs.Texts.{text_of}
 use Rattle.printing.specs.Says.{TextSays}
 use Rattle.holvreiz.specs.Returns.{
@@ -161,6 +143,13 @@ use Rattle.demands.specs.LoneRules as lone
 use Rattle.demands.specs.LoneSurveys.{supports_none, survey_empty, lone_adds_none}
 use Rattle.demands.specs.CheckRules as checks
 use Rattle.demands.specs.LimitRules as limits
+use Rattle.records.specs.declared.refusal.Refusal.{Refusal}
+use Rattle.records.specs.declared.refusal.Fault.{Fault}
+use Rattle.code_checks.specs.declared.answer.Verdict.{Verdict}
+use Rattle.coding.specs.LeastSays as verdict
+use Rattle.code_checks.specs.declared.answer.Comparison.{Comparison}
+use Rattle.comparing.specs.Comparing.{order_answer}
+use Rattle.std.specs.declared.cmp.Ordering.TheVariants.{Less, Equal, Greater}
 
 -- THE FIRST DEMAND: every public entry, on any bytes of any length, gives its answer or the one refusal of the paper's table: the first
 -- place that applies, from the top, of two drawings or codes the first one's before the second's. A refusal writes nothing; only
@@ -168,37 +157,37 @@ use Rattle.demands.specs.LimitRules as limits
 -- catalogue is `catalogue` at `usual`; the usual check is `check_list` at `usual`, that for lists of four cables at `former`.
 pub record FirstDemand : Type 0 where
   -- the checks: 1 to 8; 1, 14; these and then 2 to 8 with the drawing; 9 to 11
-  pub check_drawing : (xs : List ℕ) (c : Checked) → checked_number c ≡ drawing_refusal xs
+  pub check_drawing : (xs : List ℕ) (c : Result ⊤ Refusal) → checked_number c ≡ drawing_refusal xs
       → RefusedAs (drawing_refusal xs) (checked_number c) 0 [] []
-  pub check_length : (bs : List ℕ) (c : Checked) → checked_number c ≡ length_refusal bs
+  pub check_length : (bs : List ℕ) (c : Result ⊤ Refusal) → checked_number c ≡ length_refusal bs
       → RefusedAs (length_refusal bs) (checked_number c) 0 [] []
-  pub check_survey : (bs : List ℕ) (r : SurveyChecked) → SurveyAnswer (bytes_refusal bs) bs r → SurveyRefused bs r
-  pub check_code : (bs : List ℕ) (c : Checked) → c ≡ section_code_checked bs → RefusedAs (section_code_refusal bs) (checked_number c) 0 [] []
+  pub check_survey : (bs : List ℕ) (r : Result ℕ Fault) → SurveyAnswer (bytes_refusal bs) bs r → SurveyRefused bs r
+  pub check_code : (bs : List ℕ) (c : Result ⊤ Refusal) → c ≡ section_code_checked bs → RefusedAs (section_code_refusal bs) (checked_number c) 0 [] []
   -- the reader
   pub reader : (bs : Bor (List ℕ)) (r : Opened) → Opens bs r → ReaderRefused bs r
   -- coding and matching
-  pub code : (xs : List ℕ) (r : Written) (o z : List ℕ) → CodeSays xs r o z
+  pub code : (xs : List ℕ) (r : Result ℕ Refusal) (o z : List ℕ) → CodeSays xs r o z
       → RefusedAs (first_of (drawing_refusal xs) (too_short (5 * section_records (drawing_in xs)) o))
       (written_numbers r).refusal (written_numbers r).count o z
-  pub decode : (bs : List ℕ) (r : Written) (o z : List ℕ) → DecodeSays bs r o z
+  pub decode : (bs : List ℕ) (r : Result ℕ Refusal) (o z : List ℕ) → DecodeSays bs r o z
       → RefusedAs (first_of (section_code_refusal bs) (too_short 73 o)) (written_numbers r).refusal (written_numbers r).count o z
-  pub is_least : (bs : List ℕ) (v : Verdict) → LeastSays bs v
+  pub is_least : (bs : List ℕ) (v : Result Verdict Refusal) → LeastSays bs v
       → RefusedAs (section_code_refusal bs) (verdict_numbers v).refusal (verdict_numbers v).count [] []
-  pub compare : (xs ys : List ℕ) (r : Compared) → CompareSays xs ys r
+  pub compare : (xs ys : List ℕ) (r : Result Comparison Refusal) → CompareSays xs ys r
       → RefusedAs (first_of (section_code_refusal xs) (section_code_refusal ys)) (compared_numbers r).refusal (compared_numbers r).count [] []
-  pub match_drawing : (xs ys : List ℕ) (r : Matched) (o z : List ℕ) → MatchSays xs ys r o z
+  pub match_drawing : (xs ys : List ℕ) (r : Result (Option ℕ) Refusal) (o z : List ℕ) → MatchSays xs ys r o z
       → RefusedAs (first_of (first_of (drawing_refusal xs) (drawing_refusal ys)) (too_short (devices (drawing_in xs)) o))
       (match_refusal r) (match_count r) o z
-  pub same : (xs ys : List ℕ) (t : Sameness) → SameSays xs ys t
+  pub same : (xs ys : List ℕ) (t : Result Bool Refusal) → SameSays xs ys t
       → RefusedAs (first_of (drawing_refusal xs) (drawing_refusal ys)) (same_refusal t) (same_value t) [] []
   -- 12, 13, 1, 14, then 2 to 8 with the drawing; then 15 exactly if the entries that the third demand gives do not fit
-  pub catalogue : (bs : List ℕ) (s l : ℕ) (r : Catalogued) (o z : List ℕ) → CatalogueSays bs s l r o z → CatalogueRefused bs s l r o z
+  pub catalogue : (bs : List ℕ) (s l : ℕ) (r : Result ℕ Fault) (o z : List ℕ) → CatalogueSays bs s l r o z → CatalogueRefused bs s l r o z
   -- 16, 17; then 15 exactly if the entries of the book do not fit
-  pub book : (a b l : ℕ) (r : Catalogued) (o z : List ℕ) → BookSays a b l r o z → BookRefused a b l r o z
+  pub book : (a b l : ℕ) (r : Result ℕ Fault) (o z : List ℕ) → BookSays a b l r o z → BookRefused a b l r o z
   -- what a catalogue refuses but 15, then 18 exactly if the list is not made of whole entries
-  pub check_list : (bs : List ℕ) (s l : ℕ) (list : List ℕ) (r : ListChecked) → CheckSays bs s l list r → CheckRefused bs s l list r
+  pub check_list : (bs : List ℕ) (s l : ℕ) (list : List ℕ) (r : Result Bool Fault) → CheckSays bs s l list r → CheckRefused bs s l list r
   -- the text of an answer has no refusal of the paper: it is made whole or not at all
-  pub text : (a : Catalogued) (es : List ℕ) (r : Printed) (o z : List ℕ) → TextSays a es r o z → TextMade (text_of a es) r o z
+  pub text : (a : Result ℕ Fault) (es : List ℕ) (r : Option ℕ) (o z : List ℕ) → TextSays a es r o z → TextMade (text_of a es) r o z
   -- the same from C: refusal, count and drawing stand in the number that is returned
   pub c_code : (xs : List ℕ) (x : ℕ) (o z : List ℕ) (c : CodeReturns xs x o z)
       → ReturnedAs (first_of (drawing_refusal xs) (too_short (5 * section_records (drawing_in xs)) o)) x (written_numbers c.answer).count o z
@@ -246,19 +235,19 @@ first_demand =
     }
 
 -- A CALL OF CODING with an accepted drawing and bytes enough; one of decoding with an accepted code and bytes enough
-pub record CodingCall (xs : List ℕ) (r : Written) (o z : List ℕ) : Type 0 where
+pub record CodingCall (xs : List ℕ) (r : Result ℕ Refusal) (o z : List ℕ) : Type 0 where
   pub drawing : accepted xs ≡ true
   pub room : 5 * section_records (drawing_in xs) ≤ length o
   pub says : CodeSays xs r o z
 
-pub record DecodingCall (bs : List ℕ) (r : Written) (o z : List ℕ) : Type 0 where
+pub record DecodingCall (bs : List ℕ) (r : Result ℕ Refusal) (o z : List ℕ) : Type 0 where
   pub bytes : byte_list bs ≡ true
   pub code : section_code_refusal bs ≡ 0
   pub room : 73 ≤ length o
   pub says : DecodeSays bs r o z
 
 -- a code decoded, and what it decodes to coded again
-pub record RoundCall (bs : List ℕ) (r s : Written) (o p z w : List ℕ) : Type 0 where
+pub record RoundCall (bs : List ℕ) (r s : Result ℕ Refusal) (o p z w : List ℕ) : Type 0 where
   pub decoding : DecodingCall bs r o z
   pub room : length bs ≤ length p
   pub says : CodeSays (written_bytes r z) s p w
@@ -267,20 +256,20 @@ pub record RoundCall (bs : List ℕ) (r s : Written) (o p z w : List ℕ) : Type
 pub record SecondDemand : Type 0 where
   -- the code of an accepted drawing is that one of all its codes which comes before every other of them: DFS codes, and of a lone
   -- device its one record (`SectionCode`)
-  pub code_is_least : {xs : List ℕ} {r : Written} {o z : List ℕ} → CodingCall xs r o z → LeastWritten (drawing_in xs) r o z
+  pub code_is_least : {xs : List ℕ} {r : Result ℕ Refusal} {o z : List ℕ} → CodingCall xs r o z → LeastWritten (drawing_in xs) r o z
   -- a code decodes to the drawing that it describes: an accepted one, of which it is a code
-  pub decodes : {bs : List ℕ} {r : Written} {o z : List ℕ} → DecodingCall bs r o z
+  pub decodes : {bs : List ℕ} {r : Result ℕ Refusal} {o z : List ℕ} → DecodingCall bs r o z
       → Drawn (code_records bs) r o z × (drawing_refusal (written_bytes r z) ≡ 0) × SectionCode (drawing_in (written_bytes r z)) (code_records bs)
   -- every row of 1 to 20 records that reads as a code is accepted, and if it is one of an accepted drawing it decodes to that drawing
   pub every_code : (rs : List Rec) → records_good rs ≡ true → section_code_refusal (rec_bytes rs) ≡ 0
   pub every_code_decodes : (xs : List ℕ) (rs : List Rec) → accepted xs ≡ true → SectionCode (drawing_in xs) rs
-      → (r : Written) (o z : List ℕ) → 73 ≤ length o → DecodeSays (rec_bytes rs) r o z → Mapped (drawing_in (written_bytes r z)) (drawing_in xs)
+      → (r : Result ℕ Refusal) (o z : List ℕ) → 73 ≤ length o → DecodeSays (rec_bytes rs) r o z → Mapped (drawing_in (written_bytes r z)) (drawing_in xs)
   -- coding what a code decodes to gives the code back exactly when it was the least, and the least test answers yes exactly then
-  pub back_when_least : {bs : List ℕ} {r s : Written} {o p z w : List ℕ} → RoundCall bs r s o p z w
+  pub back_when_least : {bs : List ℕ} {r s : Result ℕ Refusal} {o p z w : List ℕ} → RoundCall bs r s o p z w
       → (written_bytes s w ≡ bs → LeastSection (section_of (code_records bs)) (code_records bs))
       × (LeastSection (section_of (code_records bs)) (code_records bs) → written_bytes s w ≡ bs)
-  pub yes_when_back : {bs : List ℕ} {r s : Written} {o p z w : List ℕ} → RoundCall bs r s o p z w → (v : Verdict) → LeastSays bs v
-      → ((k : ℕ) → v ≡ verdict.Yes k → written_bytes s w ≡ bs) × (written_bytes s w ≡ bs → v ≡ verdict.Yes (length (code_records bs)))
+  pub yes_when_back : {bs : List ℕ} {r s : Result ℕ Refusal} {o p z w : List ℕ} → RoundCall bs r s o p z w → (v : Result Verdict Refusal) → LeastSays bs v
+      → ((k : ℕ) → v ≡ Ok (verdict.yes k) → written_bytes s w ≡ bs) × (written_bytes s w ≡ bs → v ≡ Ok (verdict.yes (length (code_records bs))))
 
 pub second_demand : SecondDemand
 second_demand =
@@ -303,16 +292,16 @@ second_demand =
 pub record ThirdDemand : Type 0 where
   -- two accepted drawings get equal code bytes exactly when a map sends the devices of one one to one onto all devices of the
   -- other, kinds equal, with cables of equal kinds between them both ways; and exactly then they are told to be the same
-  pub equal_codes : {xs ys : List ℕ} {r s : Written} {o p z w : List ℕ} → CodingCall xs r o z → CodingCall ys s p w
+  pub equal_codes : {xs ys : List ℕ} {r s : Result ℕ Refusal} {o p z w : List ℕ} → CodingCall xs r o z → CodingCall ys s p w
       → (written_bytes r z ≡ written_bytes s w → Mapped (drawing_in xs) (drawing_in ys))
       × (Mapped (drawing_in xs) (drawing_in ys) → written_bytes r z ≡ written_bytes s w)
-  pub same_tells : {xs ys : List ℕ} {r s : Written} {o p z w : List ℕ} → CodingCall xs r o z → CodingCall ys s p w
-      → (t : Sameness) → SameSays xs ys t
-      → (t ≡ sameness.Yes → written_bytes r z ≡ written_bytes s w) × (written_bytes r z ≡ written_bytes s w → t ≡ sameness.Yes)
+  pub same_tells : {xs ys : List ℕ} {r s : Result ℕ Refusal} {o p z w : List ℕ} → CodingCall xs r o z → CodingCall ys s p w
+      → (t : Result Bool Refusal) → SameSays xs ys t
+      → (t ≡ Ok true → written_bytes r z ≡ written_bytes s w) × (written_bytes r z ≡ written_bytes s w → t ≡ Ok true)
   -- a catalogue that is written to its end: each pattern of 1 to l cables that drawings of at least s cranes contain has just one entry, with its
   -- least code, its support and its example, the lowest number of a drawing that contains it; there is no other entry, and codes rise
   -- (`WholeCatalogue`, field by field)
-  pub catalogue : (bs : List ℕ) (s l n : ℕ) (o z : List ℕ) → CatalogueSays bs s l (Entries n) o z → WholeCatalogue bs s l n o z
+  pub catalogue : (bs : List ℕ) (s l n : ℕ) (o z : List ℕ) → CatalogueSays bs s l (Ok n) o z → WholeCatalogue bs s l n o z
 
 pub third_demand : ThirdDemand
 third_demand =
@@ -326,13 +315,13 @@ third_demand =
 
 -- THE MATCHING RULE: the map written is the least of all maps, and "not contained" comes exactly if no map exists
 pub record MatchingRule : Type 0 where
-  pub map_written : (xs ys : List ℕ) (n : ℕ) (o z : List ℕ) → MatchSays xs ys (matched.Map n) o z
+  pub map_written : (xs ys : List ℕ) (n : ℕ) (o z : List ℕ) → MatchSays xs ys (Ok (Some n)) o z
       → LeastMapWritten (drawing_in xs) (drawing_in ys) n o z
-  pub no_map : (xs ys : List ℕ) (r : Matched) (o z : List ℕ) → drawing_refusal xs ≡ 0 → drawing_refusal ys ≡ 0
-      → devices (drawing_in xs) ≤ length o → MatchSays xs ys r o z → r ≡ matched.NotContained → Contained (drawing_in xs) (drawing_in ys) → ⊥
-  pub not_contained : (xs ys : List ℕ) (r : Matched) (o z : List ℕ) → drawing_refusal xs ≡ 0 → drawing_refusal ys ≡ 0
+  pub no_map : (xs ys : List ℕ) (r : Result (Option ℕ) Refusal) (o z : List ℕ) → drawing_refusal xs ≡ 0 → drawing_refusal ys ≡ 0
+      → devices (drawing_in xs) ≤ length o → MatchSays xs ys r o z → r ≡ Ok None → Contained (drawing_in xs) (drawing_in ys) → ⊥
+  pub not_contained : (xs ys : List ℕ) (r : Result (Option ℕ) Refusal) (o z : List ℕ) → drawing_refusal xs ≡ 0 → drawing_refusal ys ≡ 0
       → devices (drawing_in xs) ≤ length o → MatchSays xs ys r o z
-      → (Contained (drawing_in xs) (drawing_in ys) → ⊥) → r ≡ matched.NotContained
+      → (Contained (drawing_in xs) (drawing_in ys) → ⊥) → r ≡ Ok None
 
 pub matching_rule : MatchingRule
 matching_rule = record { map_written = matches.map_written; no_map = matches.no_map; not_contained = matches.not_contained }
@@ -340,14 +329,14 @@ matching_rule = record { map_written = matches.map_written; no_map = matches.no_
 -- THE ORDER RULE: the order is the one of Yan and Han, and comparing two accepted codes tells it; equal exactly when the bytes are
 pub record OrderRule : Type 0 where
   pub clauses : OrderClauses
-  pub equal : (xs ys : List ℕ) (r : Compared) → section_code_refusal xs ≡ 0 → section_code_refusal ys ≡ 0 → CompareSays xs ys r
-      → ((k : ℕ) → r ≡ compared.Equal k → xs ≡ ys) × (xs ≡ ys → r ≡ compared.Equal (length (code_records xs)))
-  pub first_before : (xs ys : List ℕ) (r : Compared) → section_code_refusal xs ≡ 0 → section_code_refusal ys ≡ 0 → CompareSays xs ys r
-      → ((k : ℕ) → r ≡ compared.Before k → before (code_records xs) (code_records ys) ≡ true)
-      × (before (code_records xs) (code_records ys) ≡ true → r ≡ compared.Before (agreement (code_records xs) (code_records ys)))
-  pub first_after : (xs ys : List ℕ) (r : Compared) → section_code_refusal xs ≡ 0 → section_code_refusal ys ≡ 0 → CompareSays xs ys r
-      → ((k : ℕ) → r ≡ compared.After k → before (code_records ys) (code_records xs) ≡ true)
-      × (before (code_records ys) (code_records xs) ≡ true → r ≡ compared.After (agreement (code_records xs) (code_records ys)))
+  pub equal : (xs ys : List ℕ) (r : Result Comparison Refusal) → section_code_refusal xs ≡ 0 → section_code_refusal ys ≡ 0 → CompareSays xs ys r
+      → ((k : ℕ) → r ≡ Ok (order_answer Equal k) → xs ≡ ys) × (xs ≡ ys → r ≡ Ok (order_answer Equal (length (code_records xs))))
+  pub first_before : (xs ys : List ℕ) (r : Result Comparison Refusal) → section_code_refusal xs ≡ 0 → section_code_refusal ys ≡ 0 → CompareSays xs ys r
+      → ((k : ℕ) → r ≡ Ok (order_answer Less k) → before (code_records xs) (code_records ys) ≡ true)
+      × (before (code_records xs) (code_records ys) ≡ true → r ≡ Ok (order_answer Less (agreement (code_records xs) (code_records ys))))
+  pub first_after : (xs ys : List ℕ) (r : Result Comparison Refusal) → section_code_refusal xs ≡ 0 → section_code_refusal ys ≡ 0 → CompareSays xs ys r
+      → ((k : ℕ) → r ≡ Ok (order_answer Greater k) → before (code_records ys) (code_records xs) ≡ true)
+      × (before (code_records ys) (code_records xs) ≡ true → r ≡ Ok (order_answer Greater (agreement (code_records xs) (code_records ys))))
 
 pub order_rule : OrderRule
 order_rule =
@@ -359,7 +348,7 @@ order_rule =
     }
 
 -- TWO ACCEPTED CODES, and what comparing them answers
-pub record ComparingCall (xs ys : List ℕ) (r : Compared) : Type 0 where
+pub record ComparingCall (xs ys : List ℕ) (r : Result Comparison Refusal) : Type 0 where
   pub first : section_code_refusal xs ≡ 0
   pub second : section_code_refusal ys ≡ 0
   pub says : CompareSays xs ys r
@@ -367,40 +356,40 @@ pub record ComparingCall (xs ys : List ℕ) (r : Compared) : Type 0 where
 -- THE RULE OF AGREEMENT: comparing gives the number of whole records before the first on which the two codes part, and the least test gives it
 -- of the code and the least one
 pub record AgreementRule : Type 0 where
-  pub figure : {xs ys : List ℕ} {r : Compared} → ComparingCall xs ys r → compared_agreement r ≡ agreement (code_records xs) (code_records ys)
+  pub figure : {xs ys : List ℕ} {r : Result Comparison Refusal} → ComparingCall xs ys r → compared_agreement r ≡ agreement (code_records xs) (code_records ys)
   -- so far the bytes are equal; it is at most both lengths, and no greater number of whole records is common to both
-  pub equal : {xs ys : List ℕ} {r : Compared} → ComparingCall xs ys r → take (5 * compared_agreement r) xs ≡ take (5 * compared_agreement r) ys
-  pub within : {xs ys : List ℕ} {r : Compared} → ComparingCall xs ys r
+  pub equal : {xs ys : List ℕ} {r : Result Comparison Refusal} → ComparingCall xs ys r → take (5 * compared_agreement r) xs ≡ take (5 * compared_agreement r) ys
+  pub within : {xs ys : List ℕ} {r : Result Comparison Refusal} → ComparingCall xs ys r
       → (5 * compared_agreement r ≤ length xs) × (5 * compared_agreement r ≤ length ys)
-  pub longest : {xs ys : List ℕ} {r : Compared} → ComparingCall xs ys r → (k : ℕ) → 5 * k ≤ length xs → 5 * k ≤ length ys
+  pub longest : {xs ys : List ℕ} {r : Result Comparison Refusal} → ComparingCall xs ys r → (k : ℕ) → 5 * k ≤ length xs → 5 * k ≤ length ys
       → take (5 * k) xs ≡ take (5 * k) ys → k ≤ compared_agreement r
   -- where both go on, the next records differ, and they decide the order
-  pub parts : {xs ys : List ℕ} {r : Compared} → ComparingCall xs ys r → 5 * compared_agreement r < length xs → 5 * compared_agreement r < length ys
+  pub parts : {xs ys : List ℕ} {r : Result Comparison Refusal} → ComparingCall xs ys r → 5 * compared_agreement r < length xs → 5 * compared_agreement r < length ys
       → row 5 (compared_agreement r) xs ≡ row 5 (compared_agreement r) ys → ⊥
-  pub decides : {xs ys : List ℕ} {r : Compared} → ComparingCall xs ys r → 5 * compared_agreement r < length xs → 5 * compared_agreement r < length ys
-      → (r ≡ compared.Before (compared_agreement r)
+  pub decides : {xs ys : List ℕ} {r : Result Comparison Refusal} → ComparingCall xs ys r → 5 * compared_agreement r < length xs → 5 * compared_agreement r < length ys
+      → (r ≡ Ok (order_answer Less (compared_agreement r))
       → rec_before (rec_in (row 5 (compared_agreement r) xs)) (rec_in (row 5 (compared_agreement r) ys)) ≡ true)
       × (rec_before (rec_in (row 5 (compared_agreement r) xs)) (rec_in (row 5 (compared_agreement r) ys)) ≡ true
-      → r ≡ compared.Before (compared_agreement r))
-  pub decides_after : {xs ys : List ℕ} {r : Compared} → ComparingCall xs ys r → 5 * compared_agreement r < length xs
+      → r ≡ Ok (order_answer Less (compared_agreement r)))
+  pub decides_after : {xs ys : List ℕ} {r : Result Comparison Refusal} → ComparingCall xs ys r → 5 * compared_agreement r < length xs
       → 5 * compared_agreement r < length ys
-      → (r ≡ compared.After (compared_agreement r)
+      → (r ≡ Ok (order_answer Greater (compared_agreement r))
       → rec_before (rec_in (row 5 (compared_agreement r) ys)) (rec_in (row 5 (compared_agreement r) xs)) ≡ true)
       × (rec_before (rec_in (row 5 (compared_agreement r) ys)) (rec_in (row 5 (compared_agreement r) xs)) ≡ true
-      → r ≡ compared.After (compared_agreement r))
+      → r ≡ Ok (order_answer Greater (compared_agreement r)))
   -- a code that begins a longer one, or is equal, gives the number of its own records; either way round it is the same
-  pub begins : {xs ys : List ℕ} {r : Compared} → ComparingCall xs ys r → (zs : List ℕ) → ys ≡ xs ++ zs → 5 * compared_agreement r ≡ length xs
-  pub either_way : {xs ys : List ℕ} {r : Compared} → ComparingCall xs ys r → (s : Compared) → CompareSays ys xs s
+  pub begins : {xs ys : List ℕ} {r : Result Comparison Refusal} → ComparingCall xs ys r → (zs : List ℕ) → ys ≡ xs ++ zs → 5 * compared_agreement r ≡ length xs
+  pub either_way : {xs ys : List ℕ} {r : Result Comparison Refusal} → ComparingCall xs ys r → (s : Result Comparison Refusal) → CompareSays ys xs s
       → compared_agreement s ≡ compared_agreement r
   -- the least test gives what comparing the code with the least one gives, that which coding writes of the drawing that it decodes to
-  pub least : {bs : List ℕ} {r s : Written} {o p z w : List ℕ} → RoundCall bs r s o p z w → (v : Verdict) → LeastSays bs v
-      → (c : Compared) → CompareSays bs (written_bytes s w) c → verdict_agreement v ≡ compared_agreement c
+  pub least : {bs : List ℕ} {r s : Result ℕ Refusal} {o p z w : List ℕ} → RoundCall bs r s o p z w → (v : Result Verdict Refusal) → LeastSays bs v
+      → (c : Result Comparison Refusal) → CompareSays bs (written_bytes s w) c → verdict_agreement v ≡ compared_agreement c
   -- and says yes exactly if that is the whole length
-  pub yes_whole : (bs : List ℕ) (v : Verdict) → section_code_refusal bs ≡ 0 → LeastSays bs v
-      → ((k : ℕ) → v ≡ verdict.Yes k → 5 * k ≡ length bs) × (5 * verdict_agreement v ≡ length bs → v ≡ verdict.Yes (length bs / 5))
+  pub yes_whole : (bs : List ℕ) (v : Result Verdict Refusal) → section_code_refusal bs ≡ 0 → LeastSays bs v
+      → ((k : ℕ) → v ≡ Ok (verdict.yes k) → 5 * k ≡ length bs) × (5 * verdict_agreement v ≡ length bs → v ≡ Ok (verdict.yes (length bs / 5)))
   -- from C: the agreement is the count divided by 256, what else is told is the rest; a refusal counts 0
-  pub c_compare : (r : Compared) → ((compared_numbers r).count / 256 ≡ compared_agreement r) × ((compared_numbers r).count % 256 ≡ order_digit r)
-  pub c_is_least : (v : Verdict) → ((verdict_numbers v).count / 256 ≡ verdict_agreement v) × ((verdict_numbers v).count % 256 ≡ least_digit v)
+  pub c_compare : (r : Result Comparison Refusal) → ((compared_numbers r).count / 256 ≡ compared_agreement r) × ((compared_numbers r).count % 256 ≡ order_digit r)
+  pub c_is_least : (v : Result Verdict Refusal) → ((verdict_numbers v).count / 256 ≡ verdict_agreement v) × ((verdict_numbers v).count % 256 ≡ least_digit v)
 
 pub agreement_rule : AgreementRule
 agreement_rule =
@@ -431,30 +420,30 @@ pub record LoneRule : Type 0 where
   pub cables_refused : (xs : List ℕ) → length xs ≡ 73 → get_or xs 0 0 ≡ 1 → 0 < get_or xs 1 0 → drawing_refusal xs ≡ 3
   pub none_refused : (xs : List ℕ) → length xs ≡ 73 → 2 ≤ get_or xs 0 0 → get_or xs 0 0 ≤ 10 → get_or xs 1 0 ≡ 0 → drawing_refusal xs ≡ 3
   -- its code is the record 0, 0, k, 0, k, and that decodes to it
-  pub code_is : {xs : List ℕ} {r : Written} {o z : List ℕ} → CodingCall xs r o z → (drawing_in xs).cables ≡ []
+  pub code_is : {xs : List ℕ} {r : Result ℕ Refusal} {o z : List ℕ} → CodingCall xs r o z → (drawing_in xs).cables ≡ []
       → written_bytes r z ≡ lone_five (kind (drawing_in xs) 0)
-  pub decodes_to : (k : ℕ) (r : Written) (o z : List ℕ) → 73 ≤ length o → DecodeSays (lone_five k) r o z
+  pub decodes_to : (k : ℕ) (r : Result ℕ Refusal) (o z : List ℕ) → 73 ≤ length o → DecodeSays (lone_five k) r o z
       → drawing_in (written_bytes r z) ≡ lone_drawing k
   -- alone, it is refused 10 (`Step`) for a cable kind and 11 (`Kind`) for unequal kinds; 0, 0 before, behind or among other records is
   -- refused 10 at its own number
   pub row_checked : (k c l : ℕ)
       → section_code_checked (0 ∷ 0 ∷ k ∷ c ∷ l ∷ [])
-      ≡ cond (eqb c 0) (cond (eqb k l) Accepted (Refused (refusal.Kind 0))) (Refused (refusal.Step 0))
+      ≡ cond (eqb c 0) (cond (eqb k l) (Ok tt) (Err (refusal.Kind 0))) (Err (refusal.Step 0))
   pub elsewhere_checked : (rs ss : List Rec) (e : Rec) → rows_refusal fresh rs ≡ 0 → e.i ≡ 0 → e.j ≡ 0
       → 2 ≤ length (rs ++ (e ∷ ss)) → length (rs ++ (e ∷ ss)) ≤ 20
-      → section_code_checked (rec_bytes (rs ++ (e ∷ ss))) ≡ Refused (refusal.Step (length rs))
+      → section_code_checked (rec_bytes (rs ++ (e ∷ ss))) ≡ Err (refusal.Step (length rs))
   -- it is least, comes before every code with cables, and two stand by their kinds; it agrees with none but itself
-  pub is_least : (k : ℕ) (v : Verdict) → LeastSays (lone_five k) v → v ≡ verdict.Yes 1
-  pub first : (k : ℕ) (ys : List ℕ) (r : Compared) → section_code_refusal ys ≡ 0 → lone_bytes ys ≡ false → CompareSays (lone_five k) ys r
-      → r ≡ compared.Before 0
-  pub by_kind : (k l : ℕ) (r : Compared) → k < l → CompareSays (lone_five k) (lone_five l) r → r ≡ compared.Before 0
+  pub is_least : (k : ℕ) (v : Result Verdict Refusal) → LeastSays (lone_five k) v → v ≡ Ok (verdict.yes 1)
+  pub first : (k : ℕ) (ys : List ℕ) (r : Result Comparison Refusal) → section_code_refusal ys ≡ 0 → lone_bytes ys ≡ false → CompareSays (lone_five k) ys r
+      → r ≡ Ok (order_answer Less 0)
+  pub by_kind : (k l : ℕ) (r : Result Comparison Refusal) → k < l → CompareSays (lone_five k) (lone_five l) r → r ≡ Ok (order_answer Less 0)
   -- as a pattern it is sent to the lowest device of its kind, and to none exactly if there is none
-  pub map : (xs ys : List ℕ) (n : ℕ) (o z : List ℕ) → (drawing_in xs).cables ≡ [] → MatchSays xs ys (matched.Map n) o z
+  pub map : (xs ys : List ℕ) (n : ℕ) (o z : List ℕ) → (drawing_in xs).cables ≡ [] → MatchSays xs ys (Ok (Some n)) o z
       → LoneMapped (kind (drawing_in xs) 0) (drawing_in ys) o z
-  pub no_device : (xs ys : List ℕ) (r : Matched) (o z : List ℕ) → drawing_refusal xs ≡ 0 → drawing_refusal ys ≡ 0 → 1 ≤ length o
+  pub no_device : (xs ys : List ℕ) (r : Result (Option ℕ) Refusal) (o z : List ℕ) → drawing_refusal xs ≡ 0 → drawing_refusal ys ≡ 0 → 1 ≤ length o
       → (drawing_in xs).cables ≡ [] → MatchSays xs ys r o z
-      → (r ≡ matched.NotContained → NoDevice (kind (drawing_in xs) 0) (drawing_in ys))
-      × (NoDevice (kind (drawing_in xs) 0) (drawing_in ys) → r ≡ matched.NotContained)
+      → (r ≡ Ok None → NoDevice (kind (drawing_in xs) 0) (drawing_in ys))
+      × (NoDevice (kind (drawing_in xs) 0) (drawing_in ys) → r ≡ Ok None)
   -- it is the same as one of its kind, and never as a drawing with cables
   pub mapped_by_kind : (xs ys : List ℕ) → drawing_refusal xs ≡ 0 → drawing_refusal ys ≡ 0 → (drawing_in xs).cables ≡ [] → (drawing_in ys).cables ≡ []
       → (Mapped (drawing_in xs) (drawing_in ys) → kind (drawing_in xs) 0 ≡ kind (drawing_in ys) 0)
@@ -466,7 +455,7 @@ pub record LoneRule : Type 0 where
   pub supports_none : (p d : Drawing) → 1 ≤ length p.cables → d.cables ≡ [] → Contained p d → ⊥
   pub survey_empty : (bs : List ℕ) (s l n : ℕ) (o z : List ℕ)
       → ((k : ℕ) (none : Drawing) → k < length (survey bs) → (get_or (survey bs) k none).cables ≡ [])
-      → CatalogueSays bs s l (Entries n) o z → n ≡ 0
+      → CatalogueSays bs s l (Ok n) o z → n ≡ 0
   pub adds_none : (ks ls : List ℕ) (c : ℕ) (ds es : List Drawing) (d : Drawing) (s l : ℕ) (gs : List Entry) → length ks ≡ length ds
       → d.cables ≡ []
       → (Catalogue (ks ++ (c ∷ ls)) (ds ++ (d ∷ es)) s l gs → Catalogue (ks ++ ls) (ds ++ es) s l (renumbered (moved_down (length ds)) gs))
@@ -504,15 +493,15 @@ pub record CraneRule : Type 0 where
   -- sheets of two cranes that differ in nothing else: refused alike; equal answers and equal bytes in coding; alike in matching, as pattern and as
   -- drawing, and in sameness, as first and as second; and they are the same
   pub refused : {xs ys : List ℕ} → SheetsAlike xs ys → drawing_refusal xs ≡ drawing_refusal ys
-  pub coded : {xs ys : List ℕ} → SheetsAlike xs ys → (o z w : List ℕ) (r s : Written) → CodeSays xs r o z → CodeSays ys s o w
+  pub coded : {xs ys : List ℕ} → SheetsAlike xs ys → (o z w : List ℕ) (r s : Result ℕ Refusal) → CodeSays xs r o z → CodeSays ys s o w
       → (r ≡ s) × (z ≡ w)
-  pub as_pattern : {xs ys : List ℕ} → SheetsAlike xs ys → (ds o z w : List ℕ) (r s : Matched) → MatchSays xs ds r o z → MatchSays ys ds s o w
+  pub as_pattern : {xs ys : List ℕ} → SheetsAlike xs ys → (ds o z w : List ℕ) (r s : Result (Option ℕ) Refusal) → MatchSays xs ds r o z → MatchSays ys ds s o w
       → (r ≡ s) × (z ≡ w)
-  pub as_drawing : {xs ys : List ℕ} → SheetsAlike xs ys → (ps o z w : List ℕ) (r s : Matched) → MatchSays ps xs r o z → MatchSays ps ys s o w
+  pub as_drawing : {xs ys : List ℕ} → SheetsAlike xs ys → (ps o z w : List ℕ) (r s : Result (Option ℕ) Refusal) → MatchSays ps xs r o z → MatchSays ps ys s o w
       → (r ≡ s) × (z ≡ w)
-  pub as_first : {xs ys : List ℕ} → SheetsAlike xs ys → (ds : List ℕ) (t u : Sameness) → SameSays xs ds t → SameSays ys ds u → t ≡ u
-  pub as_second : {xs ys : List ℕ} → SheetsAlike xs ys → (ds : List ℕ) (t u : Sameness) → SameSays ds xs t → SameSays ds ys u → t ≡ u
-  pub same : {xs ys : List ℕ} → SheetsAlike xs ys → (t : Sameness) → drawing_refusal xs ≡ 0 → SameSays xs ys t → t ≡ sameness.Yes
+  pub as_first : {xs ys : List ℕ} → SheetsAlike xs ys → (ds : List ℕ) (t u : Result Bool Refusal) → SameSays xs ds t → SameSays ys ds u → t ≡ u
+  pub as_second : {xs ys : List ℕ} → SheetsAlike xs ys → (ds : List ℕ) (t u : Result Bool Refusal) → SameSays ds xs t → SameSays ds ys u → t ≡ u
+  pub same : {xs ys : List ℕ} → SheetsAlike xs ys → (t : Result Bool Refusal) → drawing_refusal xs ≡ 0 → SameSays xs ys t → t ≡ Ok true
   -- support falls with containment, looks at the pattern up to a map alone, is at most the number of drawings that contain it, and just that
   -- where all cranes differ
   pub falls : (p q : Drawing) → Section p → Contained p q → (cr : List ℕ) (ds : List Drawing) (m n : ℕ)
@@ -573,7 +562,7 @@ example_rule =
 -- b has just one entry, with its least code, support 0 and example 0, there is no other entry, and codes rise (`WholeBook`, field by field); and
 -- for all a, b and l there is just one such list
 pub record BookRule : Type 0 where
-  pub whole : (a b l n : ℕ) (o z : List ℕ) → BookSays a b l (Entries n) o z → WholeBook a b l n o z
+  pub whole : (a b l n : ℕ) (o z : List ℕ) → BookSays a b l (Ok n) o z → WholeBook a b l n o z
   pub there : BookThere
 
 pub book_rule : BookRule
@@ -582,34 +571,34 @@ book_rule = record { whole = whole_book; there = book_there }
 -- THE RULE OF LISTS MADE ELSEWHERE: the check of a list agrees with the call that writes the catalogue, on every input
 pub record CheckRule : Type 0 where
   -- what that call wrote to its end is answered yes, and every other list no, or 18 where it is not made of whole entries
-  pub written_yes : (bs : List ℕ) (s l n : ℕ) (o z : List ℕ) → CatalogueSays bs s l (Entries n) o z
-      → (r : ListChecked) → CheckSays bs s l (written_entries n z) r → r ≡ list_check.Yes
-  pub other_no : (bs : List ℕ) (s l n : ℕ) (o z : List ℕ) → CatalogueSays bs s l (Entries n) o z
-      → (list : List ℕ) → (list ≡ written_entries n z → ⊥) → (r : ListChecked) → CheckSays bs s l list r
-      → (length list % entry_size ≡ 0 → r ≡ list_check.No) × ((length list % entry_size ≡ 0 → ⊥) → r ≡ list_check.Refused refusal.ListLength 0)
+  pub written_yes : (bs : List ℕ) (s l n : ℕ) (o z : List ℕ) → CatalogueSays bs s l (Ok n) o z
+      → (r : Result Bool Fault) → CheckSays bs s l (written_entries n z) r → r ≡ Ok true
+  pub other_no : (bs : List ℕ) (s l n : ℕ) (o z : List ℕ) → CatalogueSays bs s l (Ok n) o z
+      → (list : List ℕ) → (list ≡ written_entries n z → ⊥) → (r : Result Bool Fault) → CheckSays bs s l list r
+      → (length list % entry_size ≡ 0 → r ≡ Ok false) × ((length list % entry_size ≡ 0 → ⊥) → r ≡ Err (lone_fault refusal.ListLength))
   -- a list that is answered yes is what it writes if there is room, and 15 if there is none
-  pub yes_written : (bs : List ℕ) (s l : ℕ) (list : List ℕ) → CheckSays bs s l list list_check.Yes
-      → (r : Catalogued) (o z : List ℕ) → CatalogueSays bs s l r o z → length list ≤ length o
-      → (r ≡ Entries (length list / entry_size)) × (z ≡ in_front list o)
-  pub yes_no_room : (bs : List ℕ) (s l : ℕ) (list : List ℕ) → CheckSays bs s l list list_check.Yes
-      → (r : Catalogued) (o z : List ℕ) → CatalogueSays bs s l r o z → length o < length list
-      → (r ≡ catalogued.Refused refusal.OutputLength 0) × (z ≡ replicate (length o) 0)
+  pub yes_written : (bs : List ℕ) (s l : ℕ) (list : List ℕ) → CheckSays bs s l list (Ok true)
+      → (r : Result ℕ Fault) (o z : List ℕ) → CatalogueSays bs s l r o z → length list ≤ length o
+      → (r ≡ Ok (length list / entry_size)) × (z ≡ in_front list o)
+  pub yes_no_room : (bs : List ℕ) (s l : ℕ) (list : List ℕ) → CheckSays bs s l list (Ok true)
+      → (r : Result ℕ Fault) (o z : List ℕ) → CatalogueSays bs s l r o z → length o < length list
+      → (r ≡ Err (lone_fault refusal.OutputLength)) × (z ≡ replicate (length o) 0)
   -- what it refuses, but 15, the check refuses alike, whatever the list
-  pub refused_alike : (bs : List ℕ) (s l : ℕ) (list : List ℕ) (r : Catalogued) (t : ListChecked) (o z : List ℕ)
+  pub refused_alike : (bs : List ℕ) (s l : ℕ) (list : List ℕ) (r : Result ℕ Fault) (t : Result Bool Fault) (o z : List ℕ)
       → 0 < (survey_refusal bs s l).number → CatalogueSays bs s l r o z → CheckSays bs s l list t → list_refusal t ≡ catalogued_refusal r
   -- no two lists are answered yes
-  pub one_yes : (bs : List ℕ) (s l : ℕ) (xs ys : List ℕ) → CheckSays bs s l xs list_check.Yes → CheckSays bs s l ys list_check.Yes → xs ≡ ys
+  pub one_yes : (bs : List ℕ) (s l : ℕ) (xs ys : List ℕ) → CheckSays bs s l xs (Ok true) → CheckSays bs s l ys (Ok true) → xs ≡ ys
   -- so a right list that is cut short, or has entries behind it, is a no
-  pub cut_short : (bs : List ℕ) (s l : ℕ) (xs ys : List ℕ) → CheckSays bs s l (xs ++ ys) list_check.Yes → 0 < length ys → length xs % entry_size ≡ 0
-      → (r : ListChecked) → CheckSays bs s l xs r → r ≡ list_check.No
+  pub cut_short : (bs : List ℕ) (s l : ℕ) (xs ys : List ℕ) → CheckSays bs s l (xs ++ ys) (Ok true) → 0 < length ys → length xs % entry_size ≡ 0
+      → (r : Result Bool Fault) → CheckSays bs s l xs r → r ≡ Ok false
   -- and so is one with another byte, as the example of an entry
-  pub another_byte : (bs : List ℕ) (s l : ℕ) (list : List ℕ) → CheckSays bs s l list list_check.Yes
-      → (i : ℕ) → i < length list → (x : ℕ) → (x ≡ get_or list i 0 → ⊥) → (r : ListChecked) → CheckSays bs s l (set list i x) r → r ≡ list_check.No
-  pub with_more : (bs : List ℕ) (s l : ℕ) (xs ys : List ℕ) → CheckSays bs s l xs list_check.Yes → 0 < length ys → length ys % entry_size ≡ 0
-      → (r : ListChecked) → CheckSays bs s l (xs ++ ys) r → r ≡ list_check.No
+  pub another_byte : (bs : List ℕ) (s l : ℕ) (list : List ℕ) → CheckSays bs s l list (Ok true)
+      → (i : ℕ) → i < length list → (x : ℕ) → (x ≡ get_or list i 0 → ⊥) → (r : Result Bool Fault) → CheckSays bs s l (set list i x) r → r ≡ Ok false
+  pub with_more : (bs : List ℕ) (s l : ℕ) (xs ys : List ℕ) → CheckSays bs s l xs (Ok true) → 0 < length ys → length ys % entry_size ≡ 0
+      → (r : Result Bool Fault) → CheckSays bs s l (xs ++ ys) r → r ≡ Ok false
   -- the empty list is right exactly if the catalogue has no entry
-  pub empty : (bs : List ℕ) (s l n : ℕ) (o z : List ℕ) → CatalogueSays bs s l (Entries n) o z → (r : ListChecked) → CheckSays bs s l [] r
-      → (r ≡ list_check.Yes → n ≡ 0) × (n ≡ 0 → r ≡ list_check.Yes)
+  pub empty : (bs : List ℕ) (s l n : ℕ) (o z : List ℕ) → CatalogueSays bs s l (Ok n) o z → (r : Result Bool Fault) → CheckSays bs s l [] r
+      → (r ≡ Ok true → n ≡ 0) × (n ≡ 0 → r ≡ Ok true)
 
 pub check_rule : CheckRule
 check_rule =
@@ -633,21 +622,21 @@ pub record LimitRule : Type 0 where
       → Catalogue cr ds s l (entries_within l gs) × ((es : List Entry) → Catalogue cr ds s l es → es ≡ entries_within l gs)
   -- so the call writes of what it writes with m the entries of at most l cables, byte for byte
   pub written : (bs : List ℕ) (s l m : ℕ) → l ≤ m → (n k : ℕ) (o p z w : List ℕ)
-      → CatalogueSays bs s l (Entries n) o z → CatalogueSays bs s m (Entries k) p w → written_entries n z ≡ entries_up_to l k w
+      → CatalogueSays bs s l (Ok n) o z → CatalogueSays bs s m (Ok k) p w → written_entries n z ≡ entries_up_to l k w
   -- it is refused alike with any two limits, but for 13 and 15; and where there is room for the entries with m there is room for those with l
   pub refused_alike : (bs : List ℕ) (s l m : ℕ) → 1 ≤ l → l ≤ 8 → 1 ≤ m → m ≤ 8 → survey_refusal bs s l ≡ survey_refusal bs s m
-  pub room : (bs : List ℕ) (s l m : ℕ) → l ≤ m → 1 ≤ l → (k : ℕ) (o p w z : List ℕ) (r : Catalogued)
-      → CatalogueSays bs s m (Entries k) o w → length o ≤ length p → CatalogueSays bs s l r p z → (n : ℕ) × (r ≡ Entries n) × (n ≤ k)
+  pub room : (bs : List ℕ) (s l m : ℕ) → l ≤ m → 1 ≤ l → (k : ℕ) (o p w z : List ℕ) (r : Result ℕ Fault)
+      → CatalogueSays bs s m (Ok k) o w → length o ≤ length p → CatalogueSays bs s l r p z → (n : ℕ) × (r ≡ Ok n) × (n ≤ k)
   -- where a list is answered yes with m, a list is answered yes with l exactly if it is the entries of that one of at most l cables
-  pub checked : (bs : List ℕ) (s l m : ℕ) → l ≤ m → 1 ≤ l → (right : List ℕ) → CheckSays bs s m right list_check.Yes
-      → (list : List ℕ) (r : ListChecked) → CheckSays bs s l list r
-      → (r ≡ list_check.Yes → list ≡ entries_up_to l (length right / entry_size) right)
-      × (list ≡ entries_up_to l (length right / entry_size) right → r ≡ list_check.Yes)
+  pub checked : (bs : List ℕ) (s l m : ℕ) → l ≤ m → 1 ≤ l → (right : List ℕ) → CheckSays bs s m right (Ok true)
+      → (list : List ℕ) (r : Result Bool Fault) → CheckSays bs s l list r
+      → (r ≡ Ok true → list ≡ entries_up_to l (length right / entry_size) right)
+      × (list ≡ entries_up_to l (length right / entry_size) right → r ≡ Ok true)
   -- of the two settings with a name: what the check for four cables says yes to is what the usual one does, up to four cables
-  pub named : (bs right : List ℕ) → CheckSays bs usual.threshold usual.limit right list_check.Yes
-      → (list : List ℕ) (r : ListChecked) → CheckSays bs former.threshold former.limit list r
-      → (r ≡ list_check.Yes → list ≡ entries_up_to former.limit (length right / entry_size) right)
-      × (list ≡ entries_up_to former.limit (length right / entry_size) right → r ≡ list_check.Yes)
+  pub named : (bs right : List ℕ) → CheckSays bs usual.threshold usual.limit right (Ok true)
+      → (list : List ℕ) (r : Result Bool Fault) → CheckSays bs former.threshold former.limit list r
+      → (r ≡ Ok true → list ≡ entries_up_to former.limit (length right / entry_size) right)
+      × (list ≡ entries_up_to former.limit (length right / entry_size) right → r ≡ Ok true)
 
 pub limit_rule : LimitRule
 limit_rule =

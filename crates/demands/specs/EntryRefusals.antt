@@ -1,15 +1,11 @@
 -- The checks, the reader, the text and the C calls are turned back as the table says. Rests on what each call says. Assumes nothing.
-use Rattle.std.specs.Prelude.{◌≡◌, refl, Bool, List, [], ℕ, ◌*◌, ◌/◌, length}
+use Rattle.std.specs.Prelude.{◌≡◌, refl, Bool, List, [], ℕ, ◌*◌, ◌/◌, length, Option, ⊤, Result, Ok, Err}
 use Rattle.std.proofs.Common.{ap, subst, ◌∙◌, arith, lt-ltb, le-ltb}
 use Rattle.std.specs.Borrow.{Bor}
 use Rattle.graphs.specs.Drawing.{devices, drawing_in, drawing_refusal}
 use Rattle.graphs.specs.Survey as surveys
 use Rattle.graphs.specs.Survey.{length_refusal, bytes_refusal}
 use Rattle.codes.specs.SectionCode.{section_code_refusal, section_records}
-use Rattle.records.specs.declared.refusal.Checked.{Checked}
-use Rattle.records.specs.declared.survey.SurveyChecked.{SurveyChecked}
-use Rattle.records.specs.declared.survey.SurveyChecked.TheVariants.{Accepted, Refused}
-use Rattle.records.specs.declared.catalogued.Catalogued.{Catalogued}
 use Rattle.records.specs.Refusals.{checked_number, number_positive, first_of}
 use Rattle.records.specs.Surveys.{survey_checked, SurveyAnswer}
 use Rattle.code_checks.specs.SectionChecks.{section_code_checked}
@@ -19,7 +15,6 @@ use Rattle.matching.specs.MatchAnswers.{match_count, same_value}
 use Rattle.reader.specs.declared.reader.Opened.{Opened}
 use Rattle.reader.specs.Readers.{Opens}
 use Rattle.reader.specs.ReaderLaws.{refused_fetch, fetch_past, fetched_drawing}
-use Rattle.printing.specs.declared.answer.Printed.{Printed}
 use Rattle.text_lines.specs.Texts.{text_of}
 use Rattle.printing.specs.Says.{Made, TextSays}
 use Rattle.answer_numbers.specs.PackedLaws.{Tells}
@@ -48,29 +43,31 @@ use Rattle.demands.specs.ReturnLaws.{
   match_tells,
   sameness_tells,
 }
+use Rattle.records.specs.declared.refusal.Refusal.{Refusal}
+use Rattle.records.specs.declared.refusal.Fault.{Fault}
 
 -- A CHECK has no output and counts nothing
-checked_as : (n : ℕ) (c : Checked) → checked_number c ≡ n → RefusedAs n (checked_number c) 0 [] []
+checked_as : (n : ℕ) (c : Result ⊤ Refusal) → checked_number c ≡ n → RefusedAs n (checked_number c) 0 [] []
 checked_as n c e = record { one = e; uncounted = λ h. refl; untouched = λ h. refl }
 
 pub check_drawing_refused :
-    (xs : List ℕ) (c : Checked) → checked_number c ≡ drawing_refusal xs → RefusedAs (drawing_refusal xs) (checked_number c) 0 [] []
+    (xs : List ℕ) (c : Result ⊤ Refusal) → checked_number c ≡ drawing_refusal xs → RefusedAs (drawing_refusal xs) (checked_number c) 0 [] []
 check_drawing_refused xs = checked_as (drawing_refusal xs)
 
 pub check_length_refused :
-    (bs : List ℕ) (c : Checked) → checked_number c ≡ length_refusal bs → RefusedAs (length_refusal bs) (checked_number c) 0 [] []
+    (bs : List ℕ) (c : Result ⊤ Refusal) → checked_number c ≡ length_refusal bs → RefusedAs (length_refusal bs) (checked_number c) 0 [] []
 check_length_refused bs = checked_as (length_refusal bs)
 
-pub check_code_refused : (bs : List ℕ) (c : Checked) → c ≡ section_code_checked bs → RefusedAs (section_code_refusal bs) (checked_number c) 0 [] []
+pub check_code_refused : (bs : List ℕ) (c : Result ⊤ Refusal) → c ≡ section_code_checked bs → RefusedAs (section_code_refusal bs) (checked_number c) 0 [] []
 check_code_refused bs c e = checked_as (section_code_refusal bs) c (ap checked_number e ∙ section_checked_number bs)
 
-pub check_survey_refused : (bs : List ℕ) (r : SurveyChecked) → SurveyAnswer (bytes_refusal bs) bs r → SurveyRefused bs r
+pub check_survey_refused : (bs : List ℕ) (r : Result ℕ Fault) → SurveyAnswer (bytes_refusal bs) bs r → SurveyRefused bs r
 unfolding surveys.refusal
 check_survey_refused bs r a = record { one = a.refusal; counted = λ z. go r refl a.refusal z }
   where
-    go : (s : SurveyChecked) → r ≡ s → survey_checked s ≡ bytes_refusal bs → (bytes_refusal bs).number ≡ 0 → r ≡ Accepted (length bs / 73)
-    go (Accepted n) e f z = e ∙ ap Accepted (a.drawings n e)
-    go (Refused x d) e f z = absurd (omega (arith, number_positive x, ap (λ (y : surveys.Refusal). y.number) f, z))
+    go : (s : Result ℕ Fault) → r ≡ s → survey_checked s ≡ bytes_refusal bs → (bytes_refusal bs).number ≡ 0 → r ≡ Ok (length bs / 73)
+    go (Ok n) e f z = e ∙ ap Ok (a.drawings n e)
+    go (Err x) e f z = absurd (omega (arith, number_positive x.refusal, ap (λ (y : surveys.Refusal). y.number) f, z))
 
 -- THE READER
 pub reader_refused : (bs : Bor (List ℕ)) (r : Opened) → Opens bs r → ReaderRefused bs r
@@ -83,7 +80,7 @@ reader_refused bs r a =
     }
 
 -- THE TEXT
-pub text_made : (a : Catalogued) (es : List ℕ) (r : Printed) (o z : List ℕ) → TextSays a es r o z → TextMade (text_of a es) r o z
+pub text_made : (a : Result ℕ Fault) (es : List ℕ) (r : Option ℕ) (o z : List ℕ) → TextSays a es r o z → TextMade (text_of a es) r o z
 text_made a es r o z s =
     record {
       short = λ h. subst (λ (t : Bool). Made t (text_of a es) r o z) (lt-ltb _ _ h) s;

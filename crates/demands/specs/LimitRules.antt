@@ -1,6 +1,6 @@
 -- Two size limits: what the calls write and answer with the smaller one, by what they do with the greater. Rests on SmallerLimits and on what both
 -- calls say. Assumes nothing.
-use Rattle.std.specs.Prelude.{◌≡◌, List, [], ◌++◌, ℕ, ◌/◌, ◌≤◌, length, drop}
+use Rattle.std.specs.Prelude.{◌≡◌, List, [], ◌++◌, ℕ, ◌/◌, ◌≤◌, length, drop, Bool, true, Result, Ok}
 use Rattle.std.proofs.Common.{sym, ap, ap₂, subst, ◌∙◌, append-nil, arith, le-leb}
 use Rattle.laws.specs.Passing.{passing_length}
 use Rattle.graphs.specs.Drawing.{Drawing}
@@ -22,10 +22,6 @@ use Rattle.growth.specs.Catalogue.{
 }
 use Rattle.growth.specs.SmallerLimits.{list_within, list_smaller, entry_bytes_within}
 use Rattle.growth.specs.Settings.{accepted_settings}
-use Rattle.records.specs.declared.catalogued.Catalogued.{Catalogued}
-use Rattle.records.specs.declared.catalogued.Catalogued.TheVariants.{Entries}
-use Rattle.records.specs.declared.list_checked.ListChecked.{ListChecked}
-use Rattle.records.specs.declared.list_checked.ListChecked.TheVariants.{Yes}
 use Rattle.mining.specs.CatalogueSays.{CatalogueSays}
 use Rattle.mining.specs.CheckSays.{CheckSays}
 use Rattle.demands.specs.Terms.{written_entries, CatalogueRefused}
@@ -33,6 +29,7 @@ use Rattle.demands.specs.RefusedLaws.{catalogue_turned_back}
 use Rattle.demands.specs.WholeLists.{Finished, finished}
 use Rattle.demands.specs.WholeCatalogues.{entries_accepted}
 use Rattle.demands.specs.CheckRules.{Right, right_yes, right_written, right_size, check_list_refused}
+use Rattle.records.specs.declared.refusal.Fault.{Fault}
 
 -- THE ENTRIES
 pub catalogue_within :
@@ -57,7 +54,7 @@ module _ (bs : List ℕ) (s l m : ℕ) (low : l ≤ m) where
 
   -- WRITTEN
   pub written_within :
-      (n k : ℕ) (o p z w : List ℕ) → CatalogueSays bs s l (Entries n) o z → CatalogueSays bs s m (Entries k) p w
+      (n k : ℕ) (o p z w : List ℕ) → CatalogueSays bs s l (Ok n) o z → CatalogueSays bs s m (Ok k) p w
       → written_entries n z ≡ entries_up_to l k w
   written_within n k o p z w v u =
       let a = right_written bs s l n o z v in
@@ -78,8 +75,8 @@ module _ (bs : List ℕ) (s l m : ℕ) (low : l ≤ m) where
 
     -- ROOM for the greater catalogue is room for the smaller
     pub room_within :
-        (k : ℕ) (o p w z : List ℕ) (r : Catalogued) → CatalogueSays bs s m (Entries k) o w → length o ≤ length p → CatalogueSays bs s l r p z
-        → (n : ℕ) × (r ≡ Entries n) × (n ≤ k)
+        (k : ℕ) (o p w z : List ℕ) (r : Result ℕ Fault) → CatalogueSays bs s m (Ok k) o w → length o ≤ length p → CatalogueSays bs s l r p z
+        → (n : ℕ) × (r ≡ Ok n) × (n ≤ k)
     room_within k o p w z r u h v =
         let f : Finished (OftenIn bs s) (figures_of bs) m k o w = finished (OftenIn bs s) (figures_of bs) m (survey_refusal bs s m) k o w u in
         let fine = fine_within (entries_accepted bs s m k o w u) in
@@ -90,8 +87,8 @@ module _ (bs : List ℕ) (s l m : ℕ) (low : l ≤ m) where
 
     -- CHECKED: where a list is right with the greater limit, a list is right with the smaller exactly if it is the entries of at most l cables
     pub checked_within :
-        (right : List ℕ) → CheckSays bs s m right Yes → (list : List ℕ) (r : ListChecked) → CheckSays bs s l list r
-        → (r ≡ Yes → list ≡ entries_up_to l (length right / entry_size) right) × (list ≡ entries_up_to l (length right / entry_size) right → r ≡ Yes)
+        (right : List ℕ) → CheckSays bs s m right (Ok true) → (list : List ℕ) (r : Result Bool Fault) → CheckSays bs s l list r
+        → (r ≡ Ok true → list ≡ entries_up_to l (length right / entry_size) right) × (list ≡ entries_up_to l (length right / entry_size) right → r ≡ Ok true)
     checked_within right u list r v = (to, back)
       where
         k : Right bs s m right
@@ -102,14 +99,14 @@ module _ (bs : List ℕ) (s l m : ℕ) (low : l ≤ m) where
             let count : length right / entry_size ≡ length k.es = omega (arith, right_size bs s m k) in
             ap₂ (entries_up_to l) count (k.bytes ∙ sym (append-nil (all_bytes k.es))) ∙ up_to k.es k.catalogue k.fine []
 
-        to : r ≡ Yes → list ≡ entries_up_to l (length right / entry_size) right
+        to : r ≡ Ok true → list ≡ entries_up_to l (length right / entry_size) right
         to e =
             let j = right_yes bs s l list (subst (CheckSays bs s l list) e v) in
             j.bytes
             ∙ ap all_bytes ((catalogue_within (cranes bs) (survey bs) s l m low k.es k.catalogue).1 j.es j.catalogue)
             ∙ sym within
 
-        back : list ≡ entries_up_to l (length right / entry_size) right → r ≡ Yes
+        back : list ≡ entries_up_to l (length right / entry_size) right → r ≡ Ok true
         back e =
             (check_list_refused bs s l list r v).yes (fine_within k.fine) (entries_within l k.es) (fewer_catalogue k.es k.catalogue)
             (e ∙ within)

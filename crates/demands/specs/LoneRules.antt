@@ -1,6 +1,6 @@
 -- A drawing of one device without cables, call by call: its record, its code, what codes like it are refused for, the order, the map,
 -- sameness. Rests on what each call says. Assumes nothing.
-use Rattle.std.specs.Prelude.{◌≡◌, Bool, true, false, ◌&&◌, not, cond, List, [], ◌∷◌, ◌++◌, ◌⊎◌, ℕ, zero, suc, ◌+◌, ◌*◌, ◌%◌, ◌≤◌, ◌<◌, ltb, eqb, length}
+use Rattle.std.specs.Prelude.{⊤, ◌≡◌, Bool, true, false, ◌&&◌, not, cond, List, [], ◌∷◌, ◌++◌, ◌⊎◌, ℕ, zero, suc, ◌+◌, ◌*◌, ◌%◌, ◌≤◌, ◌<◌, ltb, eqb, length, Option, Some, None, Result, Ok, Err}
 use Rattle.std.proofs.Math.Path.{refl}
 use Rattle.std.proofs.Common.{sym, ap, ap₂, subst, ◌∙◌, inl, inr}
 use native.Mathlib.Omega.{arith}
@@ -58,23 +58,15 @@ use Rattle.codes.specs.SectionCode.{
 }
 use Rattle.codes.specs.SectionCodes.{same_lone, lone_code_of, lone_only, lone_first, lone_by_kind}
 use Rattle.codes.specs.SectionBytes.{AcceptedAs, accepted_as, read_again}
-use Rattle.records.specs.declared.refusal.Checked.TheVariants.{Accepted, Refused}
 use Rattle.records.specs.declared.refusal.Refusal.TheVariants as refusal
 use Rattle.readings.specs.Readings.{rows_checked, code_length_checked, code_checked}
 use Rattle.code_checks.specs.SectionChecks.{lone_checked, section_code_checked}
-use Rattle.code_checks.specs.declared.answer.Written.{Written}
-use Rattle.code_checks.specs.declared.answer.Verdict.{Verdict}
-use Rattle.code_checks.specs.declared.answer.Verdict.TheVariants as verdict
-use Rattle.code_checks.specs.declared.answer.Compared.{Compared}
-use Rattle.code_checks.specs.declared.answer.Compared.TheVariants as compared
 use Rattle.code_checks.specs.SectionCheckLaws.{section_checked_accepted, section_accepted_checked}
 use Rattle.coding.specs.CodeDrawing.{LeastWritten}
 use Rattle.coding.specs.LeastSays.{LeastSays}
 use Rattle.coding.specs.LeastSaysLaws.{lone_told}
 use Rattle.decoding.specs.Decoding.{DecodeSays}
 use Rattle.comparing.specs.Comparing.{CompareSays}
-use Rattle.matching.specs.declared.answer.Matched.{Matched}
-use Rattle.matching.specs.declared.answer.Matched.TheVariants as matched
 use Rattle.matching.specs.MatchAnswers.{MatchSays}
 use Rattle.matching.specs.Outcomes.{match_answers}
 use Rattle.demands.specs.Terms.{written_bytes, Mapped, Contained, lone_five, LeastMapWritten, LoneMapped, NoDevice}
@@ -83,6 +75,12 @@ use Rattle.demands.specs.CodeWays.{code_drawn, mapped_from_same, same_from_mappe
 use Rattle.demands.specs.Determined.{least_determined}
 use Rattle.demands.specs.Comparisons.{before_if}
 use Rattle.demands.specs.Matches.{map_written, no_map, not_contained}
+use Rattle.records.specs.declared.refusal.Refusal.{Refusal}
+use Rattle.code_checks.specs.declared.answer.Verdict.{Verdict}
+use Rattle.coding.specs.LeastSays as verdict
+use Rattle.code_checks.specs.declared.answer.Comparison.{Comparison}
+use Rattle.comparing.specs.Comparing.{order_answer}
+use Rattle.std.specs.declared.cmp.Ordering.TheVariants.{Less}
 
 -- ONE DEVICE: what is accepted without cables has one
 pub one_device : (d : Drawing) → devices d ≡ 1 → d.cables ≡ [] → d ≡ lone_drawing (kind d 0)
@@ -135,13 +133,13 @@ module _ (xs : List ℕ) (size : length xs ≡ 73) where
 pub lone_row_checked :
     (k c l : ℕ)
     → section_code_checked (0 ∷ 0 ∷ k ∷ c ∷ l ∷ [])
-    ≡ cond (eqb c 0) (cond (eqb k l) Accepted (Refused (refusal.Kind 0))) (Refused (refusal.Step 0))
+    ≡ cond (eqb c 0) (cond (eqb k l) (Ok tt) (Err (refusal.Kind 0))) (Err (refusal.Step 0))
 unfolding section_code_checked lone_bytes lone_row lone_checked recs_in rows rec_in
 lone_row_checked k c l = go (eqb c 0) (eqb k l)
   where
     go : (s t : Bool)
-        → cond (not s) (Refused (refusal.Step 0)) (cond (not t) (Refused (refusal.Kind 0)) Accepted)
-        ≡ cond s (cond t Accepted (Refused (refusal.Kind 0))) (Refused (refusal.Step 0))
+        → cond {A = Result ⊤ Refusal} (not s) (Err (refusal.Step 0)) (cond (not t) (Err (refusal.Kind 0)) (Ok tt))
+        ≡ cond s (cond t (Ok tt) (Err (refusal.Kind 0))) (Err (refusal.Step 0))
     go true true = refl
     go true false = refl
     go false t = refl
@@ -169,19 +167,19 @@ zero_step x r p q = rw (p, q) (go (eqb (length x.kinds) 0) (eqb 0 (end x.path)) 
 
 rows_zero :
     (k : ℕ) (x : Reading) (rs ss : List Rec) (r : Rec) → r.i ≡ 0 → r.j ≡ 0 → rows_refusal x rs ≡ 0
-    → rows_checked k x (rs ++ (r ∷ ss)) ≡ Refused (refusal.Step (k + length rs))
+    → rows_checked k x (rs ++ (r ∷ ss)) ≡ Err (refusal.Step (k + length rs))
 unfolding rows_checked
 rows_zero k x [] ss r p q e =
     let n : k ≡ k + length {A = Rec} [] = omega arith in
-    rw (zero_step x r p q) (ap (λ (m : ℕ). Refused (refusal.Step m)) n)
+    rw (zero_step x r p q) (ap (λ (m : ℕ). Err (refusal.Step m)) n)
 rows_zero k x (s ∷ rs) ss r p q e =
     let c = rows_cons x s rs e in
     let n : suc k + length rs ≡ k + length (s ∷ rs) = omega arith in
-    rw (c.step, c.kinds) (rows_zero (suc k) (stepped x s) rs ss r p q c.rest ∙ ap (λ (m : ℕ). Refused (refusal.Step m)) n)
+    rw (c.step, c.kinds) (rows_zero (suc k) (stepped x s) rs ss r p q c.rest ∙ ap (λ (m : ℕ). Err (refusal.Step m)) n)
 
 pub zero_record_checked :
     (rs ss : List Rec) (r : Rec) → rows_refusal fresh rs ≡ 0 → r.i ≡ 0 → r.j ≡ 0 → 2 ≤ length (rs ++ (r ∷ ss)) → length (rs ++ (r ∷ ss)) ≤ 20
-    → section_code_checked (rec_bytes (rs ++ (r ∷ ss))) ≡ Refused (refusal.Step (length rs))
+    → section_code_checked (rec_bytes (rs ++ (r ∷ ss))) ≡ Err (refusal.Step (length rs))
 unfolding section_code_checked lone_bytes code_checked code_length_checked
 zero_record_checked rs ss r fine p q two most =
     let ts = rs ++ (r ∷ ss) in
@@ -196,11 +194,11 @@ zero_record_checked rs ss r fine p q two most =
       le-ltb 100 (length (rec_bytes ts)) (omega arith),
       eq-eqb (length (rec_bytes ts) % 5) 0 whole,
     )
-    (ap (rows_checked 0 fresh) (read_again ts) ∙ rows_zero 0 fresh rs ss r p q fine ∙ ap (λ (m : ℕ). Refused (refusal.Step m)) at)
+    (ap (rows_checked 0 fresh) (read_again ts) ∙ rows_zero 0 fresh rs ss r p q fine ∙ ap (λ (m : ℕ). Err (refusal.Step m)) at)
 
 -- coding gives it
 pub code_is :
-    (xs : List ℕ) (r : Written) (o z : List ℕ) → drawing_refusal xs ≡ 0 → (drawing_in xs).cables ≡ [] → LeastWritten (drawing_in xs) r o z
+    (xs : List ℕ) (r : Result ℕ Refusal) (o z : List ℕ) → drawing_refusal xs ≡ 0 → (drawing_in xs).cables ≡ [] → LeastWritten (drawing_in xs) r o z
     → written_bytes r z ≡ lone_five (kind (drawing_in xs) 0)
 code_is xs r o z fine none w =
     let k = kind (drawing_in xs) 0 in
@@ -209,7 +207,7 @@ code_is xs r o z fine none w =
 
 -- and decoding takes it
 pub decodes_to :
-    (k : ℕ) (r : Written) (o z : List ℕ) → 73 ≤ length o → DecodeSays (lone_five k) r o z
+    (k : ℕ) (r : Result ℕ Refusal) (o z : List ℕ) → 73 ≤ length o → DecodeSays (lone_five k) r o z
     → drawing_in (written_bytes r z) ≡ lone_drawing k
 decodes_to k r o z room says =
     (code_drawn (lone_five k) r o z (five_fine k) room says).drawing ∙ ap section_of (five_records k) ∙ lone_code_of k
@@ -219,10 +217,10 @@ five_lone : (k : ℕ) → lone_bytes (lone_five k) ≡ true
 unfolding lone_bytes lone_row recs_in rows rec_in
 five_lone k = refl
 
-pub lone_is_least : (k : ℕ) (v : Verdict) → LeastSays (lone_five k) v → v ≡ verdict.Yes 1
-lone_is_least k v says = least_determined (lone_five k) v (verdict.Yes 1) says told
+pub lone_is_least : (k : ℕ) (v : Result Verdict Refusal) → LeastSays (lone_five k) v → v ≡ Ok (verdict.yes 1)
+lone_is_least k v says = least_determined (lone_five k) v (Ok (verdict.yes 1)) says told
   where
-    told : LeastSays (lone_five k) (verdict.Yes 1)
+    told : LeastSays (lone_five k) (Ok (verdict.yes 1))
     told = rw (section_accepted_checked (lone_five k) (five_fine k)) (lone_told (lone_five k) (five_fine k) (five_lone k))
 
 -- THE ORDER: before every code with cables, and by the kind; with none of them it agrees
@@ -238,22 +236,22 @@ unfolding lone_record
 lone_kinds_apart k l n = agreement_apart [] [] (lone_record k) (lone_record l) (λ e. n (ap (λ (z : Rec). z.ki) e))
 
 pub first :
-    (k : ℕ) (ys : List ℕ) (r : Compared) → section_code_refusal ys ≡ 0 → lone_bytes ys ≡ false → CompareSays (lone_five k) ys r
-    → r ≡ compared.Before 0
+    (k : ℕ) (ys : List ℕ) (r : Result Comparison Refusal) → section_code_refusal ys ≡ 0 → lone_bytes ys ≡ false → CompareSays (lone_five k) ys r
+    → r ≡ Ok (order_answer Less 0)
 first k ys r fine t says = go (accepted_as ys fine)
   where
-    go : AcceptedAs ys → r ≡ compared.Before 0
+    go : AcceptedAs ys → r ≡ Ok (order_answer Less 0)
     go (AcceptedAs.lone l u e) = absurd (true_and_false u t)
     go (AcceptedAs.cabled u z) =
         let good = (accepted_code ys z).good in
         before_if (lone_five k) ys r (five_fine k) fine says (rw (five_records k) (lone_first kinds_before k (code_records ys) good))
-        ∙ ap compared.Before (ap (λ (rs : List Rec). agreement rs (code_records ys)) (five_records k) ∙ lone_apart k (code_records ys) good)
+        ∙ ap (λ (k : ℕ). Ok (order_answer Less k)) (ap (λ (rs : List Rec). agreement rs (code_records ys)) (five_records k) ∙ lone_apart k (code_records ys) good)
 
-pub by_kind : (k l : ℕ) (r : Compared) → k < l → CompareSays (lone_five k) (lone_five l) r → r ≡ compared.Before 0
+pub by_kind : (k l : ℕ) (r : Result Comparison Refusal) → k < l → CompareSays (lone_five k) (lone_five l) r → r ≡ Ok (order_answer Less 0)
 by_kind k l r h says =
     before_if (lone_five k) (lone_five l) r (five_fine k) (five_fine l) says
     (rw (five_records k, five_records l) (lone_by_kind k l ∙ lt-ltb k l h))
-    ∙ ap compared.Before (ap₂ agreement (five_records k) (five_records l) ∙ lone_kinds_apart k l (λ e. omega arith))
+    ∙ ap (λ (k : ℕ). Ok (order_answer Less k)) (ap₂ agreement (five_records k) (five_records l) ∙ lone_kinds_apart k l (λ e. omega arith))
 
 -- THE MAP: every device of its kind takes it
 not_before : (u v : ℕ) → u < v → map_before (v ∷ []) (u ∷ []) ≡ true → ⊥
@@ -308,7 +306,7 @@ module _ (k : ℕ) (d : Drawing) where
               not_before u v h (subst (λ (f : List ℕ). map_before f (u ∷ []) ≡ true) e (w.least (u ∷ []) g other))
 
 pub map :
-    (xs ys : List ℕ) (n : ℕ) (o z : List ℕ) → (drawing_in xs).cables ≡ [] → MatchSays xs ys (matched.Map n) o z
+    (xs ys : List ℕ) (n : ℕ) (o z : List ℕ) → (drawing_in xs).cables ≡ [] → MatchSays xs ys (Ok (Some n)) o z
     → LoneMapped (kind (drawing_in xs) 0) (drawing_in ys) o z
 map xs ys n o z none says =
     let is = lone_in xs (match_answers says refl).pattern none in
@@ -316,7 +314,7 @@ map xs ys n o z none says =
     (subst (λ (p : Drawing). LeastMapWritten p (drawing_in ys) n o z) is (map_written xs ys n o z says))
 
 -- with bytes enough, "not contained" says exactly that there is none
-module _ (xs ys : List ℕ) (r : Matched) (o z : List ℕ) (a : drawing_refusal xs ≡ 0) (b : drawing_refusal ys ≡ 0) (room : 1 ≤ length o)
+module _ (xs ys : List ℕ) (r : Result (Option ℕ) Refusal) (o z : List ℕ) (a : drawing_refusal xs ≡ 0) (b : drawing_refusal ys ≡ 0) (room : 1 ≤ length o)
     (none : (drawing_in xs).cables ≡ []) (says : MatchSays xs ys r o z) where
   is : drawing_in xs ≡ lone_drawing (kind (drawing_in xs) 0)
   is = lone_in xs a none
@@ -325,8 +323,8 @@ module _ (xs ys : List ℕ) (r : Matched) (o z : List ℕ) (a : drawing_refusal 
   one = rw is room
 
   pub no_device :
-      (r ≡ matched.NotContained → NoDevice (kind (drawing_in xs) 0) (drawing_in ys))
-      × (NoDevice (kind (drawing_in xs) 0) (drawing_in ys) → r ≡ matched.NotContained)
+      (r ≡ Ok None → NoDevice (kind (drawing_in xs) 0) (drawing_in ys))
+      × (NoDevice (kind (drawing_in xs) 0) (drawing_in ys) → r ≡ Ok None)
   no_device = (
     λ e v h k. no_map xs ys r o z a b one says e (v ∷ [], rw is (lone_embeds (kind (drawing_in xs) 0) (drawing_in ys) v h k)),
     λ bare. not_contained xs ys r o z a b one says (absent bare),

@@ -1,6 +1,6 @@
 -- Drawings without cables in a survey: they support no pattern, are the example of none, and add no entry. Rests on the catalogue that the third
 -- demand describes. Assumes nothing.
-use Rattle.std.specs.Prelude.{◌≡◌, refl, Bool, ℕ, zero, suc, ◌≤◌, ◌<◌, get_or}
+use Rattle.std.specs.Prelude.{◌≡◌, refl, Bool, ℕ, zero, suc, ◌≤◌, ◌<◌, get_or, Ok}
 use Rattle.std.proofs.Common.{sym, ◌∙◌, arith}
 use Rattle.std.proofs.Math.Path.{ap, ap₂}
 use Rattle.std.proofs.Math.Bool.{true, false}
@@ -18,7 +18,6 @@ use Rattle.graphs.specs.FirstMarks.{moved_up, moved_down, first_true_up, first_t
 use Rattle.growth.specs.Catalogue.{figures, Entry, Often, figures_in, Catalogue}
 use Rattle.growth.specs.FigureLists.{figures_told}
 use Rattle.growth.specs.Settings.{accepted_settings}
-use Rattle.records.specs.declared.catalogued.Catalogued.TheVariants.{Entries}
 use Rattle.mining.specs.CatalogueSays.{CatalogueSays}
 use Rattle.demands.specs.Terms.{Contained, Supported, renumbered, entry_in, WholeCatalogue}
 use Rattle.demands.specs.WholeCatalogues.{whole_catalogue, entries_accepted}
@@ -49,7 +48,7 @@ no_crane p cr ds n some bare w = w.counts ∙ none_listed w.numbers w.filed
 -- so a survey of drawings without cables has no entry
 pub survey_empty :
     (bs : List ℕ) (s l n : ℕ) (o z : List ℕ) → ((k : ℕ) (none : Drawing) → k < length (survey bs) → (get_or (survey bs) k none).cables ≡ [])
-    → CatalogueSays bs s l (Entries n) o z → n ≡ 0
+    → CatalogueSays bs s l (Ok n) o z → n ≡ 0
 survey_empty bs s l n o z bare says = go n refl
   where
     whole : WholeCatalogue bs s l n o z

@@ -1,8 +1,9 @@
 -- Each call is turned back as the table says. Rests on what each call says. Assumes nothing.
-use Rattle.std.specs.Prelude.{◌≡◌, Bool, true, false, cond, List, [], ℕ, zero, suc, ◌*◌, ◌≤◌, ◌<◌, ltb, eqb, length}
+use Rattle.std.specs.Prelude.{◌≡◌, Bool, true, false, cond, List, [], ℕ, zero, suc, ◌*◌, ◌≤◌, ◌<◌, ltb, eqb, length, Option, ⊤, Result, Ok, Err}
 use Rattle.std.proofs.Math.Path.{refl, ap}
 use Rattle.std.proofs.Common.{subst, ◌∙◌, ⊎_elim, not-suc-le-zero, arith, lt-ltb, le-ltb, ne_eqb}
-use Rattle.std.proofs.Math.Option.{Option, none, some}
+use Rattle.std.proofs.Math.Option.{none, some}
+use Rattle.std.proofs.Math.Option as maybe
 use Rattle.graphs.specs.Drawing.{Drawing, devices, drawing_in, drawing_refusal}
 use Rattle.graphs.specs.Survey as surveys
 use Rattle.graphs.specs.Survey.{survey_refusal}
@@ -14,12 +15,7 @@ use Rattle.growth.specs.Sizes.{entry_size}
 use Rattle.growth.specs.Catalogue.{Entry, ListOf, OftenIn, figures_of, Figures}
 use Rattle.growth.specs.FamilyLists.{list_unique}
 use Rattle.books.specs.Book.{Small, unsupported, book_refusal}
-use Rattle.records.specs.declared.refusal.Checked.{Checked}
-use Rattle.records.specs.declared.refusal.Checked.TheVariants.{Accepted, Refused}
 use Rattle.records.specs.Refusals.{checked_number, first_of}
-use Rattle.code_checks.specs.declared.answer.Written.{Written}
-use Rattle.code_checks.specs.declared.answer.Verdict.{Verdict}
-use Rattle.code_checks.specs.declared.answer.Compared.{Compared}
 use Rattle.code_checks.specs.Answers.{written_numbers, verdict_numbers, compared_numbers, Numbers, numbers, put_bytes}
 use Rattle.code_checks.specs.AnswerLaws.{put_numbers}
 use Rattle.code_checks.specs.SectionChecks.{section_code_checked}
@@ -30,8 +26,6 @@ use Rattle.decoding.specs.DecodingLaws.{decode_checked_number}
 use Rattle.coding.specs.LeastSays.{LeastAnswer, LeastSays}
 use Rattle.comparing.specs.Comparing.{compared_count, CompareSays}
 use Rattle.comparing.specs.ComparingLaws.{compare_says_numbers}
-use Rattle.matching.specs.declared.answer.Matched.{Matched}
-use Rattle.matching.specs.declared.answer.Sameness.{Sameness}
 use Rattle.matching.specs.MatchAnswers.{
   match_refusal,
   match_count,
@@ -44,24 +38,26 @@ use Rattle.matching.specs.MatchAnswers.{
   SameAs,
   SameSays,
 }
-use Rattle.records.specs.declared.catalogued.Catalogued.{Catalogued}
-use Rattle.records.specs.declared.catalogued.Catalogued.TheVariants as catalogued
 use Rattle.records.specs.Catalogued.{catalogued_refusal, catalogued_count}
 use Rattle.entries.specs.Written.{EntriesWritten as WrittenEntries, ListWritten, ListAs, ListSays}
 use Rattle.mining.specs.CatalogueSays.{CatalogueSays}
 use Rattle.pattern_book.specs.BookSays.{BookSays}
 use Rattle.demands.specs.Coding.{least_refusal}
 use Rattle.demands.specs.Terms.{too_short, RefusedAs, ListRefused, CatalogueRefused, BookRefused}
+use Rattle.records.specs.declared.refusal.Refusal.{Refusal}
+use Rattle.records.specs.declared.refusal.Fault.{Fault}
+use Rattle.code_checks.specs.declared.answer.Verdict.{Verdict}
+use Rattle.code_checks.specs.declared.answer.Comparison.{Comparison}
 
 -- CODING
-code_as_refused : (n : ℕ) (d : Drawing) (r : Written) (o z : List ℕ) → CodeAs n d r o z
+code_as_refused : (n : ℕ) (d : Drawing) (r : Result ℕ Refusal) (o z : List ℕ) → CodeAs n d r o z
     → RefusedAs n (written_numbers r).refusal (written_numbers r).count o z
 unfolding CodeAs
 code_as_refused zero d r o z s =
     record { one = rw s.answer; uncounted = λ h. absurd (not-suc-le-zero h); untouched = λ h. absurd (not-suc-le-zero h) }
 code_as_refused (suc n) d r o z s = record { one = rw s.answer; uncounted = λ h. rw s.answer; untouched = λ h. s.output }
 
-pub code_turned_back : (xs : List ℕ) (r : Written) (o z : List ℕ) → CodeSays xs r o z
+pub code_turned_back : (xs : List ℕ) (r : Result ℕ Refusal) (o z : List ℕ) → CodeSays xs r o z
     → RefusedAs (first_of (drawing_refusal xs) (too_short (5 * section_records (drawing_in xs)) o)) (written_numbers r).refusal
     (written_numbers r).count o z
 unfolding CodeSays coding_refusal
@@ -74,11 +70,11 @@ numbers_refused n c m o z e same =
     record { one = rw e; uncounted = λ h. let d : n ≡ 0 → ⊥ = λ q. omega arith in rw (e, ne_eqb n 0 d); untouched = same }
 
 -- DECODING
-put_untouched : (c : Checked) (bytes o : List ℕ) → 0 < checked_number c → put_bytes c bytes o ≡ o
-put_untouched Accepted bytes o h = absurd (not-suc-le-zero h)
-put_untouched (Refused r) bytes o h = refl
+put_untouched : (c : Result ⊤ Refusal) (bytes o : List ℕ) → 0 < checked_number c → put_bytes c bytes o ≡ o
+put_untouched (Ok _) bytes o h = absurd (not-suc-le-zero h)
+put_untouched (Err r) bytes o h = refl
 
-pub decode_turned_back : (bs : List ℕ) (r : Written) (o z : List ℕ) → DecodeSays bs r o z
+pub decode_turned_back : (bs : List ℕ) (r : Result ℕ Refusal) (o z : List ℕ) → DecodeSays bs r o z
     → RefusedAs (first_of (section_code_refusal bs) (too_short 73 o)) (written_numbers r).refusal (written_numbers r).count o z
 decode_turned_back bs r o z s =
     rw (← decode_checked_number bs o)
@@ -87,7 +83,7 @@ decode_turned_back bs r o z s =
     (λ h. s.output ∙ put_untouched (decode_checked bs o) (decoded_bytes bs) o h))
 
 -- THE LEAST TEST
-pub least_turned_back : (bs : List ℕ) (v : Verdict) → LeastSays bs v
+pub least_turned_back : (bs : List ℕ) (v : Result Verdict Refusal) → LeastSays bs v
     → RefusedAs (section_code_refusal bs) (verdict_numbers v).refusal (verdict_numbers v).count [] []
 least_turned_back bs v s = record {
   one = least_refusal bs v s;
@@ -96,12 +92,12 @@ least_turned_back bs v s = record {
   untouched = λ h. refl;
 }
   where
-    go : (c : Checked) → LeastAnswer c (code_records bs) v → 0 < checked_number c → (verdict_numbers v).count ≡ 0
-    go Accepted a h = absurd (not-suc-le-zero h)
-    go (Refused r) a h = rw a
+    go : (c : Result ⊤ Refusal) → LeastAnswer c (code_records bs) v → 0 < checked_number c → (verdict_numbers v).count ≡ 0
+    go (Ok _) a h = absurd (not-suc-le-zero h)
+    go (Err r) a h = rw a
 
 -- COMPARING
-pub compare_turned_back : (xs ys : List ℕ) (r : Compared) → CompareSays xs ys r
+pub compare_turned_back : (xs ys : List ℕ) (r : Result Comparison Refusal) → CompareSays xs ys r
     → RefusedAs (first_of (section_code_refusal xs) (section_code_refusal ys)) (compared_numbers r).refusal (compared_numbers r).count [] []
 compare_turned_back xs ys r s =
     numbers_refused (first_of (section_code_refusal xs) (section_code_refusal ys)) (compared_count (code_records xs) (code_records ys))
@@ -109,11 +105,11 @@ compare_turned_back xs ys r s =
     (compare_says_numbers xs ys r s) (λ h. refl)
 
 -- MATCHING
-found_refusal : (l : Option (List ℕ)) → match_refusal (map_answer l) ≡ 0
+found_refusal : (l : maybe.Option (List ℕ)) → match_refusal (map_answer l) ≡ 0
 found_refusal none = refl
 found_refusal (some f) = refl
 
-match_as_refused : (n : ℕ) (l : Option (List ℕ)) (r : Matched) (o z : List ℕ) → MatchAs n l r o z
+match_as_refused : (n : ℕ) (l : maybe.Option (List ℕ)) (r : Result (Option ℕ) Refusal) (o z : List ℕ) → MatchAs n l r o z
     → RefusedAs n (match_refusal r) (match_count r) o z
 unfolding MatchAs
 match_as_refused zero l r o z s =
@@ -125,14 +121,14 @@ match_as_refused zero l r o z s =
     }
 match_as_refused (suc n) l r o z s = record { one = s.refusal; uncounted = λ h. s.count; untouched = λ h. s.output }
 
-pub match_turned_back : (xs ys : List ℕ) (r : Matched) (o z : List ℕ) → MatchSays xs ys r o z
+pub match_turned_back : (xs ys : List ℕ) (r : Result (Option ℕ) Refusal) (o z : List ℕ) → MatchSays xs ys r o z
     → RefusedAs (first_of (first_of (drawing_refusal xs) (drawing_refusal ys)) (too_short (devices (drawing_in xs)) o)) (match_refusal r)
     (match_count r) o z
 unfolding MatchSays match_number
 match_turned_back xs ys r o z s = match_as_refused (match_number xs ys o) (least_map (drawing_in xs) (drawing_in ys)) r o z s
 
 -- SAMENESS
-same_as_refused : (n : ℕ) (d e : Drawing) (r : Sameness) → SameAs n d e r → RefusedAs n (same_refusal r) (same_value r) [] []
+same_as_refused : (n : ℕ) (d e : Drawing) (r : Result Bool Refusal) → SameAs n d e r → RefusedAs n (same_refusal r) (same_value r) [] []
 unfolding SameAs
 same_as_refused zero d e r s =
     record {
@@ -142,22 +138,22 @@ same_as_refused zero d e r s =
     }
 same_as_refused (suc n) d e r s = record { one = s.refusal; uncounted = λ h. s.value; untouched = λ h. refl }
 
-pub same_turned_back : (xs ys : List ℕ) (r : Sameness) → SameSays xs ys r
+pub same_turned_back : (xs ys : List ℕ) (r : Result Bool Refusal) → SameSays xs ys r
     → RefusedAs (first_of (drawing_refusal xs) (drawing_refusal ys)) (same_refusal r) (same_value r) [] []
 unfolding SameSays
 same_turned_back xs ys r s = same_as_refused (first_of (drawing_refusal xs) (drawing_refusal ys)) (drawing_in xs) (drawing_in ys) r s
 
 -- A LIST of patterns
-module _ (f : surveys.Refusal) (Wanted : Drawing → Type 0) (figure : Drawing → Figures) (l : ℕ) (r : Catalogued) (o z : List ℕ) where
+module _ (f : surveys.Refusal) (Wanted : Drawing → Type 0) (figure : Drawing → Figures) (l : ℕ) (r : Result ℕ Fault) (o z : List ℕ) where
   early : (n : ℕ) → f.number ≡ n → ListAs n f Wanted figure l r o z → 0 < n → (catalogued_refusal r ≡ f) × (catalogued_count r ≡ 0) × (z ≡ o)
   early zero e a h = absurd (not-suc-le-zero h)
   early (suc n) e (g, w) h = (g, uncounted r g, w)
     where
-      uncounted : (r : Catalogued) → catalogued_refusal r ≡ f → catalogued_count r ≡ 0
-      uncounted (catalogued.Entries k) q =
-          let none : (catalogued_refusal (catalogued.Entries k)).number ≡ 0 = unfold surveys.refusal in refl in
+      uncounted : (r : Result ℕ Fault) → catalogued_refusal r ≡ f → catalogued_count r ≡ 0
+      uncounted (Ok k) q =
+          let none : (catalogued_refusal (Ok k)).number ≡ 0 = unfold surveys.refusal in refl in
           absurd (omega (arith, ap (λ (x : surveys.Refusal). x.number) q))
-      uncounted (catalogued.Refused x d) q = refl
+      uncounted (Err x) q = refl
 
   -- the entries that are written, or do not fit, are those of any list of the family: there is just one
   module _ (fine : f.number ≡ 0) (says : ListSays f Wanted figure l r o z) where
@@ -185,8 +181,8 @@ module _ (f : surveys.Refusal) (Wanted : Drawing → Type 0) (figure : Drawing �
         enough = λ fine es c h. enough fine says es c h;
       }
 
-pub catalogue_turned_back : (bs : List ℕ) (s l : ℕ) (r : Catalogued) (o z : List ℕ) → CatalogueSays bs s l r o z → CatalogueRefused bs s l r o z
+pub catalogue_turned_back : (bs : List ℕ) (s l : ℕ) (r : Result ℕ Fault) (o z : List ℕ) → CatalogueSays bs s l r o z → CatalogueRefused bs s l r o z
 catalogue_turned_back bs s l = list_turned_back (survey_refusal bs s l) (OftenIn bs s) (figures_of bs) l
 
-pub book_turned_back : (a b l : ℕ) (r : Catalogued) (o z : List ℕ) → BookSays a b l r o z → BookRefused a b l r o z
+pub book_turned_back : (a b l : ℕ) (r : Result ℕ Fault) (o z : List ℕ) → BookSays a b l r o z → BookRefused a b l r o z
 book_turned_back a b l = list_turned_back (surveys.refusal (book_refusal a b l) 0) (Small a b) unsupported l

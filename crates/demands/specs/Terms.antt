@@ -1,6 +1,6 @@
 -- The terms of Demands.antt: the bytes that a call writes, what a refused call leaves, the map of demand 3, what decoding leaves,
 -- support as a number of cranes, the example, and a catalogue or a book that is whole. Assumes nothing: these are definitions.
-use Rattle.std.specs.Prelude.{◌≡◌, Bool, true, false, cond, List, [], ◌∷◌, ◌++◌, map, ◌⊎◌, ℕ, ◌*◌, ◌/◌, ◌%◌, ◌≤◌, ◌<◌, ltb, length, get_or, take, drop, replicate}
+use Rattle.std.specs.Prelude.{◌≡◌, Bool, true, false, cond, List, [], ◌∷◌, ◌++◌, map, ◌⊎◌, Option, Some, None, Result, Ok, Err, ℕ, ◌*◌, ◌/◌, ◌%◌, ◌≤◌, ◌<◌, ltb, length, get_or, take, drop, replicate}
 use Rattle.std.specs.Borrow.{Bor}
 use Rattle.laws.specs.Lists.{Mem}
 use Rattle.laws.specs.Counting.{Different}
@@ -18,50 +18,37 @@ use Rattle.growth.specs.Sizes.{example_at, entry_size}
 use Rattle.growth.specs.Catalogue.{Figures, figures, Entry, entry, ListOf, Catalogue, entry_bytes, all_bytes, OftenIn, figures_of}
 use Rattle.growth.specs.FigureLists.{with_figures}
 use Rattle.books.specs.Book.{Small, unsupported, book_refusal}
+use Rattle.records.specs.declared.refusal.Refusal.{Refusal}
 use Rattle.records.specs.declared.refusal.Refusal.TheVariants.{OutputLength, ListLength}
-use Rattle.code_checks.specs.declared.answer.Written.{Written}
-use Rattle.code_checks.specs.declared.answer.Written.TheVariants as written
+use Rattle.records.specs.declared.refusal.Fault.{Fault}
 use Rattle.code_checks.specs.declared.answer.Verdict.{Verdict}
-use Rattle.code_checks.specs.declared.answer.Verdict.TheVariants as verdict
-use Rattle.code_checks.specs.declared.answer.Compared.{Compared}
-use Rattle.code_checks.specs.declared.answer.Compared.TheVariants as compared
+use Rattle.code_checks.specs.declared.answer.Comparison.{Comparison}
+use Rattle.code_checks.specs.Answers.{order_number}
 use Rattle.laws.specs.Lent.{in_front}
-use Rattle.records.specs.declared.catalogued.Catalogued.{Catalogued}
-use Rattle.records.specs.declared.catalogued.Catalogued.TheVariants.{Entries, Refused}
 use Rattle.records.specs.Catalogued.{catalogued_refusal, catalogued_count}
-use Rattle.records.specs.declared.list_checked.ListChecked.{ListChecked}
-use Rattle.records.specs.declared.list_checked.ListChecked.TheVariants as list_check
 use Rattle.records.specs.ListsChecked.{list_refusal, list_value}
-use Rattle.records.specs.declared.survey.SurveyChecked.{SurveyChecked}
-use Rattle.records.specs.declared.survey.SurveyChecked.TheVariants as survey_check
-use Rattle.records.specs.Refusals.{checked_number}
+use Rattle.records.specs.Refusals.{checked_number, lone_fault}
 use Rattle.records.specs.Surveys.{survey_checked}
 use Rattle.reader.specs.declared.reader.Opened.{Opened}
-use Rattle.reader.specs.declared.reader.Fetched.{Fetched}
-use Rattle.reader.specs.Readers.{Fetches, FetchGives}
-use Rattle.printing.specs.declared.answer.Printed.{Printed}
-use Rattle.printing.specs.declared.answer.Printed.TheVariants as printed
+use Rattle.reader.specs.Readers.{Fetched, Fetches, FetchGives}
 
 -- THE BYTES a call answers with: those it wrote in front, none where it refuses
-abbrev pub written_bytes : Written → (out_now : List ℕ) → List ℕ
-written_bytes (written.Bytes n) z = take n z
-written_bytes (written.Refused r) z = []
+abbrev pub written_bytes : Result ℕ Refusal → (out_now : List ℕ) → List ℕ
+written_bytes (Ok n) z = take n z
+written_bytes (Err r) z = []
 
 -- and those of the n entries that a catalogue has
 abbrev pub written_entries : (n : ℕ) → (out_now : List ℕ) → List ℕ
 written_entries n z = take (entry_size * n) z
 
 -- WHAT COMPARING AND THE LEAST TEST TELL beside the agreement, in the paper's numbers: 0 equal, 1 before, 2 after; 1 yes, 0 no; 0 of a refusal
-abbrev pub order_digit : Compared → ℕ
-order_digit (compared.Equal k) = 0
-order_digit (compared.Before k) = 1
-order_digit (compared.After k) = 2
-order_digit (compared.Refused r) = 0
+abbrev pub order_digit : Result Comparison Refusal → ℕ
+order_digit (Ok c) = order_number c.order
+order_digit (Err r) = 0
 
-abbrev pub least_digit : Verdict → ℕ
-least_digit (verdict.Yes k) = 1
-least_digit (verdict.No k) = 0
-least_digit (verdict.Refused r) = 0
+abbrev pub least_digit : Result Verdict Refusal → ℕ
+least_digit (Ok v) = cond v.least 1 0
+least_digit (Err r) = 0
 
 -- 15: too short for the whole answer
 abbrev pub too_short : (needed : ℕ) → (out : List ℕ) → ℕ
@@ -74,9 +61,9 @@ pub record RefusedAs (number refusal count : ℕ) (out out_now : List ℕ) : Typ
   pub untouched : 0 < number → out_now ≡ out
 
 -- OF A CHECK OF A SURVEY: the refusal with the drawing at fault, or how many drawings there are
-pub record SurveyRefused (bs : List ℕ) (r : SurveyChecked) : Type 0 where
+pub record SurveyRefused (bs : List ℕ) (r : Result ℕ Fault) : Type 0 where
   pub one : survey_checked r ≡ bytes_refusal bs
-  pub counted : (bytes_refusal bs).number ≡ 0 → r ≡ survey_check.Accepted (length bs / 73)
+  pub counted : (bytes_refusal bs).number ≡ 0 → r ≡ Ok (length bs / 73)
 
 -- OF OPENING AND FETCHING: opening checks the length place alone; where that refuses, each fetch is 14; else a fetch is 14 exactly if d
 -- is not below the number of drawings, and a refused fetch gives an empty part
@@ -88,9 +75,9 @@ pub record ReaderRefused (bs : Bor (List ℕ)) (r : Opened) : Type 0 where
       length_refusal bs.now ≡ 0 → (d : ℕ) (f : Fetched) → Fetches r.reader d f → d < length bs.now / 73 → FetchGives f 0 (row 73 d bs.now)
 
 -- OF A TEXT: it is made whole, or nothing is written
-pub record TextMade (text : List ℕ) (r : Printed) (out out_now : List ℕ) : Type 0 where
-  pub short : length out < length text → (r ≡ printed.TooShort) × (out_now ≡ out)
-  pub enough : length text ≤ length out → (r ≡ printed.Bytes (length text)) × (out_now ≡ in_front text out)
+pub record TextMade (text : List ℕ) (r : Option ℕ) (out out_now : List ℕ) : Type 0 where
+  pub short : length out < length text → (r ≡ None) × (out_now ≡ out)
+  pub enough : length text ≤ length out → (r ≡ Some (length text)) × (out_now ≡ in_front text out)
 
 -- OF A C CALL: the number returned has the refusal in bits 32 to 39, the count below and the drawing above
 abbrev pub returned_refusal : ℕ → ℕ
@@ -109,16 +96,16 @@ pub record ReturnedAs (number x count : ℕ) (out out_now : List ℕ) : Type 0 w
 
 -- OF A LIST of patterns, whichever are wanted: what the call is given comes first, and is refused with the drawing at fault; then 15 exactly
 -- where the entries of the one list that there is do not fit, and every lent byte is zero
-pub record ListRefused (f : surveys.Refusal) (Wanted : Drawing → Type 0) (figure : Drawing → Figures) (l : ℕ) (r : Catalogued)
+pub record ListRefused (f : surveys.Refusal) (Wanted : Drawing → Type 0) (figure : Drawing → Figures) (l : ℕ) (r : Result ℕ Fault)
     (out out_now : List ℕ) : Type 0 where
   pub early : 0 < f.number → (catalogued_refusal r ≡ f) × (catalogued_count r ≡ 0) × (out_now ≡ out)
   pub there : f.number ≡ 0 → (es : List Entry) × ListOf kinds_before Wanted figure l es
   pub short :
       f.number ≡ 0 → (es : List Entry) → ListOf kinds_before Wanted figure l es → length out < entry_size * length es
-      → (r ≡ Refused OutputLength 0) × (out_now ≡ replicate (length out) 0)
+      → (r ≡ Err (lone_fault OutputLength)) × (out_now ≡ replicate (length out) 0)
   pub enough :
       f.number ≡ 0 → (es : List Entry) → ListOf kinds_before Wanted figure l es → entry_size * length es ≤ length out
-      → (r ≡ Entries (length es)) × (out_now ≡ in_front (all_bytes es) out)
+      → (r ≡ Ok (length es)) × (out_now ≡ in_front (all_bytes es) out)
 
 -- the same from C
 pub record ListReturned (f : surveys.Refusal) (Wanted : Drawing → Type 0) (figure : Drawing → Figures) (l x : ℕ)
@@ -134,14 +121,14 @@ pub record ListReturned (f : surveys.Refusal) (Wanted : Drawing → Type 0) (fig
       → (returned_refusal x ≡ 0) × (returned_drawing x ≡ 0) × (returned_count x ≡ length es) × (out_now ≡ in_front (all_bytes es) out)
 
 -- of a catalogue: settings and survey; then the patterns that drawings of enough cranes contain, with their support and example
-abbrev pub CatalogueRefused : (bs : List ℕ) (s l : ℕ) → Catalogued → (out out_now : List ℕ) → Type 0
+abbrev pub CatalogueRefused : (bs : List ℕ) (s l : ℕ) → Result ℕ Fault → (out out_now : List ℕ) → Type 0
 CatalogueRefused bs s l = ListRefused (survey_refusal bs s l) (OftenIn bs s) (figures_of bs) l
 
 abbrev pub CatalogueReturned : (bs : List ℕ) (s l x : ℕ) (out out_now : List ℕ) → Type 0
 CatalogueReturned bs s l = ListReturned (survey_refusal bs s l) (OftenIn bs s) (figures_of bs) l
 
 -- of the book: 16 and 17, which name no drawing; then the patterns with small kinds, with support 0 and example 0
-abbrev pub BookRefused : (a b l : ℕ) → Catalogued → (out out_now : List ℕ) → Type 0
+abbrev pub BookRefused : (a b l : ℕ) → Result ℕ Fault → (out out_now : List ℕ) → Type 0
 BookRefused a b l = ListRefused (surveys.refusal (book_refusal a b l) 0) (Small a b) unsupported l
 
 abbrev pub BookReturned : (a b l x : ℕ) (out out_now : List ℕ) → Type 0
@@ -149,15 +136,15 @@ BookReturned a b l = ListReturned (surveys.refusal (book_refusal a b l) 0) (Smal
 
 -- OF A LIST THAT IS CHECKED: what a catalogue refuses comes first, but 15; then 18 exactly where the list is not made of whole entries; else yes
 -- exactly if it is the bytes of the one catalogue that there is
-pub record CheckRefused (bs : List ℕ) (s l : ℕ) (list : List ℕ) (r : ListChecked) : Type 0 where
+pub record CheckRefused (bs : List ℕ) (s l : ℕ) (list : List ℕ) (r : Result Bool Fault) : Type 0 where
   pub early : 0 < (survey_refusal bs s l).number → (list_refusal r ≡ survey_refusal bs s l) × (list_value r ≡ 0)
-  pub part_entry : (survey_refusal bs s l).number ≡ 0 → (length list % entry_size ≡ 0 → ⊥) → r ≡ list_check.Refused ListLength 0
+  pub part_entry : (survey_refusal bs s l).number ≡ 0 → (length list % entry_size ≡ 0 → ⊥) → r ≡ Err (lone_fault ListLength)
   pub there : (survey_refusal bs s l).number ≡ 0 → (es : List Entry) × Catalogue (cranes bs) (survey bs) s l es
   pub yes :
-      (survey_refusal bs s l).number ≡ 0 → (es : List Entry) → Catalogue (cranes bs) (survey bs) s l es → list ≡ all_bytes es → r ≡ list_check.Yes
+      (survey_refusal bs s l).number ≡ 0 → (es : List Entry) → Catalogue (cranes bs) (survey bs) s l es → list ≡ all_bytes es → r ≡ Ok true
   pub no :
       (survey_refusal bs s l).number ≡ 0 → length list % entry_size ≡ 0 → (es : List Entry) → Catalogue (cranes bs) (survey bs) s l es
-      → (list ≡ all_bytes es → ⊥) → r ≡ list_check.No
+      → (list ≡ all_bytes es → ⊥) → r ≡ Ok false
 
 -- the same from C
 pub record CheckReturned (bs : List ℕ) (s l : ℕ) (list : List ℕ) (x : ℕ) : Type 0 where
@@ -180,7 +167,7 @@ Mapped d e = (f : List ℕ) × DemandMap d e f
 
 -- DECODED: what is written is the record of the drawing that the code describes, as a sheet of crane 0, and lent bytes past it keep their
 -- content
-pub record Drawn (rs : List Rec) (r : Written) (out out_now : List ℕ) : Type 0 where
+pub record Drawn (rs : List Rec) (r : Result ℕ Refusal) (out out_now : List ℕ) : Type 0 where
   pub bytes : written_bytes r out_now ≡ drawing_bytes 0 (section_of rs)
   pub drawing : drawing_in (written_bytes r out_now) ≡ section_of rs
   pub crane : crane_in (written_bytes r out_now) ≡ 0

@@ -1,6 +1,6 @@
 -- A book that is written to its end is whole: every small pattern has just one entry, and there is no other. That follows from what the call says,
 -- and from nothing else. Rests on WholeLists. Assumes nothing.
-use Rattle.std.specs.Prelude.{◌≡◌, List, ℕ, ◌≤◌, ◌<◌}
+use Rattle.std.specs.Prelude.{◌≡◌, List, ℕ, ◌≤◌, ◌<◌, Ok}
 use Rattle.std.proofs.Common.{ap, arith}
 use Rattle.graphs.specs.Drawing.{Drawing}
 use Rattle.graphs.specs.Graph.{Section}
@@ -9,13 +9,12 @@ use Rattle.growth.specs.Catalogue.{Figures, figures}
 use Rattle.books.specs.Book.{Small, unsupported, book_refusal}
 use Rattle.books.specs.BookSettings.{settings_fit}
 use Rattle.books.specs.SmallFamily.{small_closed, unsupported_kept}
-use Rattle.records.specs.declared.catalogued.Catalogued.TheVariants.{Entries}
 use Rattle.pattern_book.specs.BookSays.{BookSays}
 use Rattle.demands.specs.Terms.{entry_in, EntryFor, WholeList, WholeBook}
 use Rattle.demands.specs.WholeLists.{EntrySays, list_accepted, Finished, finished, whole_says, whole_there, whole_list}
 
 -- where entries are answered, the settings are accepted
-pub book_accepted : (a b l n : ℕ) (o z : List ℕ) → BookSays a b l (Entries n) o z → book_refusal a b l ≡ 0
+pub book_accepted : (a b l n : ℕ) (o z : List ℕ) → BookSays a b l (Ok n) o z → book_refusal a b l ≡ 0
 unfolding surveys.refusal
 book_accepted a b l n o z = list_accepted (Small a b) unsupported l (surveys.refusal (book_refusal a b l) 0) n o z
 
@@ -40,7 +39,7 @@ module _ (a b l n : ℕ) (o z : List ℕ) (high : l ≤ 8) (f : Finished (Small 
       }
 
 -- ONE THEOREM: a book that the call says to have n entries is whole
-pub whole_book : (a b l n : ℕ) (o z : List ℕ) → BookSays a b l (Entries n) o z → WholeBook a b l n o z
+pub whole_book : (a b l n : ℕ) (o z : List ℕ) → BookSays a b l (Ok n) o z → WholeBook a b l n o z
 whole_book a b l n o z says =
     demanded a b l n o z (omega (arith, (settings_fit a b l (book_accepted a b l n o z says)).2))
     (finished (Small a b) unsupported l (surveys.refusal (book_refusal a b l) 0) n o z says)

@@ -1,6 +1,6 @@
 -- A catalogue that is written to its end is whole, as the third demand asks: that follows from what the call says, and from nothing
 -- else. Rests on WholeLists. Assumes nothing.
-use Rattle.std.specs.Prelude.{◌≡◌, List, ℕ, ◌≤◌, ◌<◌}
+use Rattle.std.specs.Prelude.{◌≡◌, List, ℕ, ◌≤◌, ◌<◌, Ok}
 use Rattle.std.proofs.Common.{sym, ap, subst, arith}
 use Rattle.graphs.specs.Drawing.{Drawing}
 use Rattle.graphs.specs.Graph.{Section}
@@ -8,7 +8,6 @@ use Rattle.graphs.specs.Survey.{survey, cranes, survey_refusal}
 use Rattle.growth.specs.Catalogue.{Figures, OftenIn, figures_of}
 use Rattle.growth.specs.Frequent.{often_closed, figures_kept}
 use Rattle.growth.specs.Settings.{accepted_settings}
-use Rattle.records.specs.declared.catalogued.Catalogued.TheVariants.{Entries}
 use Rattle.walks.specs.PreparedLaws.{as_many_cranes}
 use Rattle.mining.specs.CatalogueSays.{CatalogueSays}
 use Rattle.demands.specs.Terms.{entry_in, EntryFor, Supported, FirstWith, WholeCatalogue}
@@ -17,7 +16,7 @@ use Rattle.demands.specs.ExampleRules.{first_with}
 use Rattle.demands.specs.WholeLists.{EntrySays, list_accepted, Finished, finished, whole_says, whole_there, whole_list}
 
 -- where entries are answered, settings and survey are accepted
-pub entries_accepted : (bs : List ℕ) (s l n : ℕ) (o z : List ℕ) → CatalogueSays bs s l (Entries n) o z → (survey_refusal bs s l).number ≡ 0
+pub entries_accepted : (bs : List ℕ) (s l n : ℕ) (o z : List ℕ) → CatalogueSays bs s l (Ok n) o z → (survey_refusal bs s l).number ≡ 0
 entries_accepted bs s l n o z = list_accepted (OftenIn bs s) (figures_of bs) l (survey_refusal bs s l) n o z
 
 module _ (bs : List ℕ) (s l n : ℕ) (o z : List ℕ) (low : 1 ≤ s) (high : l ≤ 8) (f : Finished (OftenIn bs s) (figures_of bs) l n o z) where
@@ -47,7 +46,7 @@ module _ (bs : List ℕ) (s l n : ℕ) (o z : List ℕ) (low : 1 ≤ s) (high : 
       }
 
 -- ONE THEOREM: a catalogue that the call says to have n entries is whole
-pub whole_catalogue : (bs : List ℕ) (s l n : ℕ) (o z : List ℕ) → CatalogueSays bs s l (Entries n) o z → WholeCatalogue bs s l n o z
+pub whole_catalogue : (bs : List ℕ) (s l n : ℕ) (o z : List ℕ) → CatalogueSays bs s l (Ok n) o z → WholeCatalogue bs s l n o z
 whole_catalogue bs s l n o z says =
     let fine = accepted_settings bs s l (entries_accepted bs s l n o z says) in
     demanded bs s l n o z fine.threshold_low fine.limit_high

@@ -1,6 +1,6 @@
 -- A list that is written to its end is whole: each entry is read back, is one for a wanted pattern, and no two are for the same. Over any closed
 -- family of patterns; a catalogue and the book are instances. Rests on least codes. Assumes nothing.
-use Rattle.std.specs.Prelude.{◌≡◌, refl, Bool, true, false, List, [], ◌∷◌, map, ◌⊎◌, ℕ, zero, suc, ◌*◌, ◌≤◌, ◌<◌, ltb, eqb, length, get_or, drop}
+use Rattle.std.specs.Prelude.{◌≡◌, refl, Bool, true, false, List, [], ◌∷◌, map, ◌⊎◌, ℕ, zero, suc, ◌*◌, ◌≤◌, ◌<◌, ltb, eqb, length, get_or, drop, Result, Ok, Err}
 use Rattle.std.proofs.Common.{sym, ap, subst, ◌∙◌, inl, inr, not-suc-le-zero, le_of_suc-le-suc, arith, length-append, length-drop, drop_at, ltb-true, ltb-false, eqb-true}
 use Rattle.std.proofs.lemmas.List.{length-map}
 use Rattle.std.proofs.Math.ListN.{get_or-map}
@@ -26,17 +26,15 @@ use Rattle.codes.specs.SectionCodes.{rows_not_lone, lone_code_row, lone_only, ca
 use Rattle.growth.specs.Sizes.{entry_size}
 use Rattle.growth.specs.Catalogue.{Figures, figures, Entry, entry, EntryOf, ListOf, entry_bytes, all_bytes}
 use Rattle.growth.specs.Family.{Closed, KeptByMaps}
-use Rattle.records.specs.declared.refusal.Refusal.{Refusal}
 use Rattle.records.specs.declared.refusal.Refusal.TheVariants.{OutputLength}
-use Rattle.records.specs.Refusals.{number_of, number_positive}
+use Rattle.records.specs.Refusals.{number_of, number_positive, lone_fault}
 use Rattle.laws.specs.Lent.{in_front}
-use Rattle.records.specs.declared.catalogued.Catalogued.{Catalogued}
-use Rattle.records.specs.declared.catalogued.Catalogued.TheVariants.{Entries, Refused}
 use Rattle.records.specs.Catalogued.{catalogued_count, catalogued_refusal}
 use Rattle.entries.specs.Written.{EntriesWritten, ListAs, ListSays}
 use Rattle.growth.specs.EntryLaws.{all_bytes_length}
 use Rattle.demands.specs.Terms.{entry_in, EntryFor, WholeList}
 use Rattle.demands.specs.ReadEntries.{bytes_at, entry_at}
+use Rattle.records.specs.declared.refusal.Fault.{Fault}
 
 -- each element of a rising list comes before those further on
 rises_at :
@@ -48,13 +46,13 @@ rises_at lt d (x ∷ xs) r zero (suc k) h g = rises_head lt x xs r (get_or xs k 
 rises_at lt d (x ∷ xs) r (suc j) (suc k) h g = rises_at lt d xs (rises_tail lt x xs r) j k (le_of_suc-le-suc h) (le_of_suc-le-suc g)
 
 -- entries are answered with number 0, a refusal with another
-entries_number : (n : ℕ) → (catalogued_refusal (Entries n)).number ≡ 0
+entries_number : (n : ℕ) → (catalogued_refusal (Ok n)).number ≡ 0
 unfolding surveys.refusal
 entries_number n = refl
 
-refused_number : (r : Refusal) (d : ℕ) → (catalogued_refusal (Refused r d)).number ≡ number_of r
+refused_number : (f : Fault) → (catalogued_refusal (Err f)).number ≡ number_of f.refusal
 unfolding surveys.refusal
-refused_number r d = refl
+refused_number f = refl
 
 module _ (Wanted : Drawing → Type 0) (figure : Drawing → Figures) (l : ℕ) where
   -- WHAT AN ENTRY SAYS of any section that it is one for
@@ -66,10 +64,10 @@ module _ (Wanted : Drawing → Type 0) (figure : Drawing → Figures) (l : ℕ) 
     pub figures_are : e.figures ≡ figure p
 
   -- where entries are answered, what was given is accepted
-  pub list_accepted : (f : surveys.Refusal) (n : ℕ) (o z : List ℕ) → ListSays f Wanted figure l (Entries n) o z → f.number ≡ 0
+  pub list_accepted : (f : surveys.Refusal) (n : ℕ) (o z : List ℕ) → ListSays f Wanted figure l (Ok n) o z → f.number ≡ 0
   list_accepted f n o z says = go f.number refl says
     where
-      go : (m : ℕ) → f.number ≡ m → ListAs m f Wanted figure l (Entries n) o z → f.number ≡ 0
+      go : (m : ℕ) → f.number ≡ m → ListAs m f Wanted figure l (Ok n) o z → f.number ≡ 0
       go zero e c = e
       go (suc m) e (r, w) = absurd (omega (arith, sym (entries_number n) ∙ ap (λ (f : surveys.Refusal). f.number) r ∙ e))
 
@@ -81,22 +79,22 @@ module _ (Wanted : Drawing → Type 0) (figure : Drawing → Figures) (l : ℕ) 
     pub room : entry_size * length es ≤ length o
     pub output : z ≡ in_front (all_bytes es) o
 
-  pub finished : (f : surveys.Refusal) (n : ℕ) (o z : List ℕ) → ListSays f Wanted figure l (Entries n) o z → Finished n o z
+  pub finished : (f : surveys.Refusal) (n : ℕ) (o z : List ℕ) → ListSays f Wanted figure l (Ok n) o z → Finished n o z
   finished f n o z says = go f.number refl says
     where
       written :
-          (es : List Entry) (t : Bool) → ltb (length o) (entry_size * length es) ≡ t → EntriesWritten t es (Entries n) o z
+          (es : List Entry) (t : Bool) → ltb (length o) (entry_size * length es) ≡ t → EntriesWritten t es (Ok n) o z
           → (n ≡ length es) × (entry_size * length es ≤ length o) × (z ≡ in_front (all_bytes es) o)
       written es true e (r, w) =
           absurd
           (omega (
             arith,
-            sym (entries_number n) ∙ ap (λ (c : Catalogued). (catalogued_refusal c).number) r ∙ refused_number OutputLength 0,
+            sym (entries_number n) ∙ ap (λ (c : Result ℕ Fault). (catalogued_refusal c).number) r ∙ refused_number (lone_fault OutputLength),
             number_positive OutputLength,
           ))
       written es false e (r, w) = (ap catalogued_count r, ltb-false (length o) (entry_size * length es) e, w)
 
-      go : (m : ℕ) → f.number ≡ m → ListAs m f Wanted figure l (Entries n) o z → Finished n o z
+      go : (m : ℕ) → f.number ≡ m → ListAs m f Wanted figure l (Ok n) o z → Finished n o z
       go zero e (es, c, w) =
           let t = written es (ltb (length o) (entry_size * length es)) refl w in
           record { es = es; list = c; count = t.0; room = t.1; output = t.2 }

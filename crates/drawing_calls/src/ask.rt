@@ -2,48 +2,45 @@
 // has them. How far two codes agree is the number of the record on which they part.
 use checks::drawing::check_drawing;
 use checks::survey::check_survey;
-use code_checks::answer::{Compared, Verdict};
+use code_checks::answer::{Comparison, Verdict};
 use code_checks::check::check_code;
 use coding::least::is_least;
 use comparing::compare::compare;
-use matching::answer::Sameness;
 use matching::same::same;
-use transcript::answer::{Answer, NO_CALL, checked, refused, surveyed};
-use transcript::call::{CHECK_CODE, CHECK_DRAWING, CHECK_SURVEY, COMPARE, IS_LEAST, SAME};
+use records::refusal::Fault;
+use std::cmp::Ordering;
+use transcript::answer::{Answer, checked};
+use transcript::call::Question;
 
-fn verdict(answer: Verdict) -> Answer {
-    match answer {
-        Verdict::No(agreement) => Answer(0, agreement, 0),
-        Verdict::Yes(agreement) => Answer(0, agreement, 1),
-        Verdict::Refused(reason) => refused(reason, 0),
+fn verdict(verdict: Verdict) -> Answer {
+    Answer {
+        at: verdict.agreement,
+        count: usize::from(verdict.least),
+        ..Answer::ACCEPTED
     }
 }
 
-fn compared(answer: Compared) -> Answer {
-    match answer {
-        Compared::Equal(agreement) => Answer(0, agreement, 0),
-        Compared::Before(agreement) => Answer(0, agreement, 1),
-        Compared::After(agreement) => Answer(0, agreement, 2),
-        Compared::Refused(reason) => refused(reason, 0),
+fn compared(comparison: Comparison) -> Answer {
+    let order = match comparison.order {
+        Ordering::Equal => 0,
+        Ordering::Less => 1,
+        Ordering::Greater => 2,
+    };
+    Answer {
+        at: comparison.agreement,
+        count: order,
+        ..Answer::ACCEPTED
     }
 }
 
-fn sameness(answer: Sameness) -> Answer {
-    match answer {
-        Sameness::No => Answer(0, 0, 0),
-        Sameness::Yes => Answer(0, 0, 1),
-        Sameness::Refused(reason) => refused(reason, 0),
-    }
-}
-
-pub fn ask(call: u32, first: &[u8], second: &[u8]) -> Answer {
-    match call {
-        CHECK_DRAWING => checked(check_drawing(first)),
-        CHECK_SURVEY => surveyed(check_survey(first)),
-        CHECK_CODE => checked(check_code(first)),
-        IS_LEAST => verdict(is_least(first)),
-        COMPARE => compared(compare(first, second)),
-        SAME => sameness(same(first, second)),
-        _ => Answer(NO_CALL, 0, 0),
-    }
+pub fn ask(question: Question, first: &[u8], second: &[u8]) -> Result<Answer, Fault> {
+    let answer = match question {
+        Question::CheckDrawing => checked(check_drawing(first))?,
+        Question::CheckSurvey => Answer::counted(check_survey(first)?),
+        Question::CheckCode => checked(check_code(first))?,
+        Question::IsLeast => verdict(is_least(first)?),
+        Question::Compare => compared(compare(first, second)?),
+        Question::Same => Answer::counted(usize::from(same(first, second)?)),
+    };
+    Ok(answer)
 }

@@ -8,7 +8,7 @@ ghost use Rattle.drawing_checks.specs.Joined.{ends_fault, PairOf};
 
 use records::cable::Cable;
 use records::drawing::Drawing;
-use records::refusal::{Checked, Refusal};
+use records::refusal::Refusal;
 
 // The ends of a cable, the lower first.
 #[derive(Drop)]
@@ -22,53 +22,45 @@ fn pair_of(cable: Cable) -> Pair
     requires { (cable.a < 10) × (cable.b < 10) }
     ensures { PairOf cable result }
 {
-    if cable.a < cable.b {
-        return Pair {
-            low: cable.a,
-            high: cable.b,
-        };
-    }
     Pair {
-        low: cable.b,
-        high: cable.a,
+        low: cable.a.min(cable.b),
+        high: cable.a.max(cable.b),
     }
 }
 
 // The first reason to refuse a cable of a record of n devices for its ends alone.
-fn check_ends(cable: Cable, n: usize) -> Checked
+fn check_ends(cable: Cable, n: usize) -> Result<(), Refusal>
     ensures { checked_number result ≡ ends_fault n (as_cable cable) }
 {
     let a = cable.a;
     let b = cable.b;
     if n <= a || n <= b {
-        return Checked::Refused(Refusal::CableEnd);
+        return Err(Refusal::CableEnd);
     }
     if a == b {
-        return Checked::Refused(Refusal::CableLoop);
+        return Err(Refusal::CableLoop);
     }
-    Checked::Accepted
+    Ok(())
 }
 
 // The first reason to refuse one of the first m cables of a record of n devices: a cable is checked fully before the next. A table
 // has a mark for each pair that an earlier cable joins, so that no cable walks the earlier ones.
-pub fn check_cables(drawing: &[u8], n: usize, m: usize) -> Checked
+pub fn check_cables(drawing: &[u8], n: usize, m: usize) -> Result<(), Refusal>
     requires { counts_refusal (record { devices = n; cables = m }) ≡ 0 }
     ensures { checked_number result ≡ cable_refusal n [] (cables_before m drawing.now) }
 {
     let mut joined = [[false; Drawing::MOST_DEVICES]; Drawing::MOST_DEVICES];
     for c in 0..m {
         let cable = Cable::at(drawing, c);
-        if let Checked::Refused(r) = check_ends(cable, n) {
-            return Checked::Refused(r);
-        }
+        check_ends(cable, n)?;
         let pair = pair_of(cable);
         let low = pair.low;
         let high = pair.high;
         let again = joined[low][high];
         joined[low][high] = true;
         if again {
-            return Checked::Refused(Refusal::CablePair);
+            return Err(Refusal::CablePair);
         }
     }
-    Checked::Accepted
+    Ok(())
 }

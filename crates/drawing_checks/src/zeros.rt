@@ -6,10 +6,5 @@ ghost use Rattle.graphs.specs.Drawing.{all_zero};
 pub fn all_zero(bytes: &[u8]) -> bool
     ensures { result ≡ all_zero bytes.now }
 {
-    for i in 0..bytes.len() {
-        if bytes[i] != 0 {
-            return false;
-        }
-    }
-    true
+    bytes.iter().all(|&byte| byte == 0)
 }

@@ -1,6 +1,6 @@
 -- A list that was grown to its end is written, and one that does not fit is 15; a list that is given is the family's or not. Rests on
 -- FamilyLists and EntryLaws. Assumes nothing.
-use Rattle.std.specs.Prelude.{◌≡◌, refl, Bool, true, false, List, [], ◌++◌, map, ℕ, zero, suc, ◌*◌, ◌≤◌, ◌<◌, length, drop, replicate}
+use Rattle.std.specs.Prelude.{◌≡◌, refl, Bool, true, false, List, [], ◌++◌, map, ℕ, zero, suc, ◌*◌, ◌≤◌, ◌<◌, length, drop, replicate, Option, Some, None, Result, Ok, Err}
 use Rattle.std.proofs.Common.{sym, ap, ◌∙◌, subst, append-nil, arith, length-drop, lt-ltb, le-ltb}
 use Rattle.std.proofs.lemmas.List.{length-map}
 use Rattle.laws.specs.Lists.{nil_of_length}
@@ -18,11 +18,9 @@ use Rattle.growth.specs.Growth.{Listed}
 use Rattle.growth.specs.EntryLaws.{all_bytes_length}
 use Rattle.growth.specs.Listings.{ListsMore}
 use Rattle.records.specs.declared.refusal.Refusal.TheVariants.{OutputLength}
-use Rattle.records.specs.declared.catalogued.Catalogued.{Catalogued}
-use Rattle.records.specs.declared.catalogued.Catalogued.TheVariants.{Entries, Refused}
+use Rattle.records.specs.declared.refusal.Fault.{Fault}
+use Rattle.records.specs.Refusals.{lone_fault}
 use Rattle.records.specs.Catalogued.{catalogued_refusal}
-use Rattle.entries.specs.declared.output.Growth.{Growth}
-use Rattle.entries.specs.declared.output.Growth.TheVariants.{To, Stopped}
 use Rattle.entries.specs.ListOutcomes.{Outcome}
 use Rattle.entries.specs.Written.{EntriesWritten, ListWritten, ListAs, ListSays, ListHeld}
 
@@ -33,9 +31,9 @@ drop_all n xs h = nil_of_length (drop n xs) (omega (arith, length-drop n xs))
 -- the same told in other words
 pub outcome_as :
     (checking : Bool) (figure : Drawing → Figures) {P Q : List (List Rec) → Type 0} → ((more : List (List Rec)) → P more → Q more)
-    → (cs : List (List Rec)) (old out : List ℕ) (r : Growth) → Outcome checking figure P cs old out r → Outcome checking figure Q cs old out r
-outcome_as checking figure f cs old out (To k) m = record { more = m.more; which = f m.more m.which; lists = m.lists; room = m.room }
-outcome_as checking figure f cs old out Stopped m = record { more = m.more; which = f m.more m.which; back = m.back }
+    → (cs : List (List Rec)) (old out : List ℕ) (r : Option ℕ) → Outcome checking figure P cs old out r → Outcome checking figure Q cs old out r
+outcome_as checking figure f cs old out (Some k) m = record { more = m.more; which = f m.more m.which; lists = m.lists; room = m.room }
+outcome_as checking figure f cs old out None m = record { more = m.more; which = f m.more m.which; back = m.back }
 
 module _ (Wanted : Drawing → Type 0) (figure : Drawing → Figures) (l : ℕ) (closed : Closed Wanted) (kept : KeptByMaps figure) (low : l ≤ 8) where
   abbrev All : List (List Rec) → Type 0
@@ -62,31 +60,31 @@ module _ (Wanted : Drawing → Type 0) (figure : Drawing → Figures) (l : ℕ) 
 
   -- WRITTEN TO THE END
   pub list_written :
-      (o z : List ℕ) (k : ℕ) → Outcome false figure (Listed kinds_before kinds_order (Listable kinds_before Wanted) l []) [] o z (To k)
-      → length z ≡ length o → ListWritten Wanted figure l o (Entries k) z
+      (o z : List ℕ) (k : ℕ) → Outcome false figure (Listed kinds_before kinds_order (Listable kinds_before Wanted) l []) [] o z (Some k)
+      → length z ≡ length o → ListWritten Wanted figure l o (Ok k) z
   list_written o z k m e = (
     map (entry_for figure) m.more,
     list_is m.more m.which,
-    subst (λ (t : Bool). EntriesWritten t (map (entry_for figure) m.more) (Entries k) o z)
+    subst (λ (t : Bool). EntriesWritten t (map (entry_for figure) m.more) (Ok k) o z)
         (sym (le-ltb (length o) (entry_size * length (map (entry_for figure) m.more)) (omega (arith, m.room, count o m, e))))
-        (ap Entries (count o m), bytes o m),
+        (ap Ok (count o m), bytes o m),
   )
 
   -- DOES NOT FIT
   pub list_too_long :
-      (o y z : List ℕ) → Outcome false figure (Listed kinds_before kinds_order (Listable kinds_before Wanted) l []) [] o y Stopped
-      → length y ≡ length o → z ≡ replicate (length y) 0 → ListWritten Wanted figure l o (Refused OutputLength 0) z
+      (o y z : List ℕ) → Outcome false figure (Listed kinds_before kinds_order (Listable kinds_before Wanted) l []) [] o y None
+      → length y ≡ length o → z ≡ replicate (length y) 0 → ListWritten Wanted figure l o (Err (lone_fault OutputLength)) z
   list_too_long o y z m e is = (
     map (entry_for figure) m.more,
     list_is m.more m.which,
-    subst (λ (t : Bool). EntriesWritten t (map (entry_for figure) m.more) (Refused OutputLength 0) o z)
+    subst (λ (t : Bool). EntriesWritten t (map (entry_for figure) m.more) (Err (lone_fault OutputLength)) o z)
         (sym (lt-ltb (length o) (entry_size * length (map (entry_for figure) m.more)) (omega (arith, m.back, size_is m.more m.which))))
         (refl, is ∙ ap (λ (k : ℕ). replicate k 0) e),
   )
 
   -- HELD TO THE END: the list that is given begins with the whole list, and is it if it is no longer
   pub list_held :
-      (given : List ℕ) (k : ℕ) → Outcome true figure (Listed kinds_before kinds_order (Listable kinds_before Wanted) l []) [] given given (To k)
+      (given : List ℕ) (k : ℕ) → Outcome true figure (Listed kinds_before kinds_order (Listable kinds_before Wanted) l []) [] given given (Some k)
       → {r : Bool} → Decides r (length given ≡ entry_size * k) → ListHeld Wanted figure l given r
   list_held given k m d = (
     map (entry_for figure) m.more,
@@ -104,7 +102,7 @@ module _ (Wanted : Drawing → Type 0) (figure : Drawing → Figures) (l : ℕ) 
 
   -- IT DIFFERS
   pub list_differs :
-      (given : List ℕ) → Outcome true figure (Listed kinds_before kinds_order (Listable kinds_before Wanted) l []) [] given given Stopped
+      (given : List ℕ) → Outcome true figure (Listed kinds_before kinds_order (Listable kinds_before Wanted) l []) [] given given None
       → ListHeld Wanted figure l given false
   list_differs given m = (
     map (entry_for figure) m.more,
@@ -117,7 +115,7 @@ module _ (Wanted : Drawing → Type 0) (figure : Drawing → Figures) (l : ℕ) 
   )
 
 -- THE OUTCOME: what was given is refused, or not
-module _ (f : surveys.Refusal) (Wanted : Drawing → Type 0) (figure : Drawing → Figures) (l : ℕ) (r : Catalogued) (o z : List ℕ) where
+module _ (f : surveys.Refusal) (Wanted : Drawing → Type 0) (figure : Drawing → Figures) (l : ℕ) (r : Result ℕ Fault) (o z : List ℕ) where
   pub says_refused : 0 < f.number → catalogued_refusal r ≡ f → z ≡ o → ListSays f Wanted figure l r o z
   says_refused h e same = go f.number h
     where

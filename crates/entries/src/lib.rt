@@ -4,4 +4,3 @@
 
 pub mod entry; // entry.rt: one entry of a list written into its own bytes
 pub mod next; // next.rt: the next entry of a list written, or held against a list that is given
-pub mod output; // output.rt: what stands in the output while a list grows

@@ -1,7 +1,6 @@
 // The next entry of a walk: what is done with it. Where a list is written it goes into the output, behind those before it; where one is
 // checked it is held against the bytes that stand there. This is all in which the two differ.
-ghost use Rattle.std.specs.Prelude.{◌≡◌, true, false, ◌*◌, ◌≤◌, length};
-ghost use Rattle.laws.specs.Decides.{Decides};
+ghost use Rattle.std.specs.Prelude.{true, false, ◌*◌, ◌≤◌, length};
 ghost use Rattle.growth.specs.Sizes.{entry_size};
 ghost use Rattle.growth.specs.Page.{page, EntryHanded};
 ghost use Rattle.entries.specs.Heads.{HeadFits, headed};
@@ -9,19 +8,6 @@ ghost use Rattle.entries.specs.Heads.{HeadFits, headed};
 use crate::entry::{put_entry, write_entry};
 use records::code::Code;
 use records::entry::Entry;
-
-// Whether two rows of as many bytes are equal: no, at the first byte that differs.
-fn same_bytes(one: &[u8], other: &[u8]) -> bool
-    requires { length one.now ≡ length other.now }
-    ensures { Decides result (one.now ≡ other.now) }
-{
-    for i in 0..one.len() {
-        if one[i] != other[i] {
-            return false;
-        }
-    }
-    true
-}
 
 // Whether an entry stands as entry k of a list: it is made as it would be written.
 fn entry_stands(code: &[u8; Code::BYTES], head: Entry, k: usize, list: &[u8]) -> bool
@@ -35,7 +21,7 @@ fn entry_stands(code: &[u8; Code::BYTES], head: Entry, k: usize, list: &[u8]) ->
     let mut own = [0; Entry::BYTES];
     write_entry(code, head, &mut own);
     let end = at + Entry::BYTES;
-    same_bytes(&own, &list[at..end])
+    own[..] == list[at..end]
 }
 
 // Writes an entry as entry k of the output, if there is room for it.

@@ -9,33 +9,23 @@ use code_records::record::Record;
 use records::code::Code;
 
 // Whether a cable with these labels comes before record t.
+#[tactic(auto, unfolding(codes::specs::Code::kinds_before))]
 fn labels_before(code: &[u8; Code::BYTES], t: usize, ki: u8, c: u8, kj: u8) -> bool
     requires { t < 20 }
     ensures { result ≡ kinds_before (with_labels ki c kj) (record_of code.now t) }
 {
-    let at = Code::RECORD_BYTES * t;
-    if ki != code[at + 2] {
-        return ki < code[at + 2];
-    }
-    if c != code[at + 3] {
-        return c < code[at + 3];
-    }
-    kj < code[at + 4]
+    let held = Record::at(code, t);
+    (ki, c, kj) < (held.ki, held.c, held.kj)
 }
 
 // Whether record t is a forward one from device a that such a cable from a would have come before.
+#[tactic(auto, unfolding(codes::specs::Code::kinds_before))]
 fn overlooks(code: &[u8; Code::BYTES], t: usize, a: u8, c: u8, kj: u8) -> bool
     requires { t < 20 }
     ensures { Decides result (OverlookedBy code.now t a c kj) }
 {
-    let at = Code::RECORD_BYTES * t;
-    if code[at] != a {
-        return false;
-    }
-    if code[at + 1] <= a {
-        return false;
-    }
-    labels_before(code, t, code[at + 2], c, kj)
+    let held = Record::at(code, t);
+    held.i == a && a < held.j && labels_before(code, t, held.ki, c, kj)
 }
 
 // Whether a cable from device a would have come before one that the code takes from a.
@@ -43,12 +33,7 @@ fn overlooked(code: &[u8; Code::BYTES], m: usize, a: u8, c: u8, kj: u8) -> bool
     requires { m ≤ 20 }
     ensures { Decides result (OverlookedAt code.now m a c kj) }
 {
-    for t in 1..m {
-        if overlooks(code, t, a, c, kj) {
-            return true;
-        }
-    }
-    false
+    (1..m).any(|t| overlooks(code, t, a, c, kj))
 }
 
 // Whether the code with a record more is certain not to be the least: that record's cable comes before the first record,
@@ -61,10 +46,9 @@ pub fn hopeless(code: &[u8; Code::BYTES], m: usize, next: Record) -> bool
     if m == 0 {
         return next.kj < next.ki;
     }
-    if labels_before(code, 0, next.ki, next.c, next.kj) {
-        return true;
-    }
-    if labels_before(code, 0, next.kj, next.c, next.ki) {
+    if labels_before(code, 0, next.ki, next.c, next.kj)
+        || labels_before(code, 0, next.kj, next.c, next.ki)
+    {
         return true;
     }
     if next.i < next.j {

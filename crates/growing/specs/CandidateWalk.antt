@@ -1,6 +1,6 @@
 -- Walking the next cables of a code: the record of each candidate, that the code may grow by it, and what is listed after
 -- each. Rests on Growths and Walking. Assumes nothing.
-use Rattle.std.specs.Prelude.{◌≡◌, refl, Bool, true, false, cond, List, [], ◌∷◌, ◌++◌, map, ℕ, zero, suc, ◌+◌, ◌-◌, ◌/◌, ◌%◌, ◌^◌, ◌≤◌, ◌<◌, ltb, length, get_or}
+use Rattle.std.specs.Prelude.{◌≡◌, refl, Bool, true, false, cond, List, [], ◌∷◌, ◌++◌, map, ℕ, zero, suc, ◌+◌, ◌-◌, ◌/◌, ◌%◌, ◌^◌, ◌≤◌, ◌<◌, ltb, length, get_or, Option, Some, None}
 use Rattle.std.proofs.Common.{sym, ap, ◌∙◌, subst, mod-lt, arith}
 use Rattle.laws.specs.Lists.{Mem, snoc, snoc_length, mem_map, map_append, mem_eq}
 use Rattle.laws.specs.Rising.{Rises, rises_apart, rises_back}
@@ -22,7 +22,6 @@ use Rattle.growth.specs.ListedBy.{place_in, chosen_places, chosen_rise}
 use Rattle.growth.specs.Walking.{Gives}
 use Rattle.growth.specs.Listings.{ListsMore, Stops}
 use Rattle.growth.specs.ListingLaws.{none_walked, walked_more, walked_past, walked_stopped}
-use Rattle.entries.specs.declared.output.Growth.TheVariants.{To, Stopped}
 use Rattle.growing.specs.declared.grow.Settings.{Settings}
 use Rattle.walks.specs.LabelMarks.{drawings_of, cranes_of}
 use Rattle.walks.specs.PreparedLaws.{drawings_counted, prepared_few, prepared_sections}
@@ -30,7 +29,8 @@ use Rattle.laws.specs.Parts.{part}
 use Rattle.laws.specs.PartLaws.{part_none, part_snoc, part_split, part_has}
 use Rattle.extending.specs.HeldCode.{basis, CanRead, CodeHeld, CodeKept}
 use Rattle.extending.specs.HeldCodeLaws.{records_kept, held_kept}
-use Rattle.looking.specs.Looking.{MayCome, Hopeless, CanLookOn, LookedOn}
+use Rattle.looking.specs.declared.ahead.Hopeful.{Hopeful}
+use Rattle.looking.specs.Looking.{MayCome, Hopeless, CanLookOn, FoundAhead, LookedOn}
 use Rattle.codes.specs.OwnNumbering.{WellGrown}
 use Rattle.growing.specs.GrowthOutcomes.{
   CandidateHeld,
@@ -275,8 +275,8 @@ module _ {survey labels rank alphabet : List ℕ} {g : Settings} {γ : List Rec}
         {cells₁ seen₁ list₁ out₁ : List ℕ} {written : ℕ} (w : OnTheWay survey alphabet g kind
         γ list from top out count k cells₁ seen₁ list₁ out₁ written)
         {cells₂ seen₂ list₂ out₂ : List ℕ} where
-      walk_stopped : PatternGrown survey g δ cells₂ seen₂ list₁ top list₂ out₁ written Stopped out₂
-          → CandidatesWalked survey alphabet g kind γ cells₂ seen₂ list from top list₂ out count Stopped out₂
+      walk_stopped : PatternGrown survey g δ cells₂ seen₂ list₁ top list₂ out₁ written None out₂
+          → CandidatesWalked survey alphabet g kind γ cells₂ seen₂ list from top list₂ out count None out₂
       walk_stopped u =
           record {
             blank = u.blank;
@@ -306,7 +306,7 @@ module _ {survey labels rank alphabet : List ℕ} {g : Settings} {γ : List Rec}
               (Gives kinds_before kinds_order (OftenIn survey g.threshold) g.limit c) (cs ++ x.more) out₂) t
               (u.told (cs ++ x.more) old x.lists)))
 
-      walk_next : {m : ℕ} → PatternGrown survey g δ cells₂ seen₂ list₁ top list₂ out₁ written (To m) out₂
+      walk_next : {m : ℕ} → PatternGrown survey g δ cells₂ seen₂ list₁ top list₂ out₁ written (Some m) out₂
           → OnTheWay survey alphabet g kind γ list from top out count (k + 1) cells₂ seen₂ list₂ out₂ m
       walk_next {m} u =
           record {
@@ -353,7 +353,7 @@ module _ {survey labels rank alphabet : List ℕ} {g : Settings} {γ : List Rec}
 
   walk_ends : {cells₁ seen₁ list₁ out₁ : List ℕ} {k written : ℕ} → top ≤ k
       → OnTheWay survey alphabet g kind γ list from top out count k cells₁ seen₁ list₁ out₁ written
-      → CandidatesWalked survey alphabet g kind γ cells₁ seen₁ list from top list₁ out count (To written) out₁
+      → CandidatesWalked survey alphabet g kind γ cells₁ seen₁ list from top list₁ out count (Some written) out₁
   walk_ends {out₁ = out₁} {k = k} {written = written} e w =
       let z : k ≡ top = omega (arith, w.high) in
       record {
@@ -397,59 +397,69 @@ module _ {survey labels rank alphabet : List ℕ} {g : Settings} {code kinds : L
             (walk_comes a i (omega (arith, w.low)) high (get_or list₁ i 0) (w.kept.below i high));
       }
 
-  -- ONE IS LOOKED FOR
-  module _ {code₂ kinds₂ : List ℕ} {at cell wider : ℕ}
-      (l : LookedOn code₁ kinds₁ m n kind alphabet g.labels list₁ k top code₂ kinds₂ at cell wider) where
-    -- those before it are passed over
+  -- THOSE BEFORE ONE are passed over
+  module _ {at : ℕ} (low : k ≤ at) (high : at ≤ top)
+      (passed : (i : ℕ) → k ≤ i → i < at
+      → Hopeless (snoc (recs_in m code₁) (record_at (basis kind (recs_in m code₁)) alphabet g.labels (get_or list₁ i 0 / (2 ^ 40))))) where
     passes : (d i : ℕ) → i + d ≡ at → k ≤ i
         → OnTheWay survey alphabet g kind (recs_in m code) list from top out count i cells₁ seen₁ list₁ out₁ written
         → OnTheWay survey alphabet g kind (recs_in m code) list from top out count at cells₁ seen₁ list₁ out₁ written
-    passes zero i e low v =
+    passes zero i e from_k v =
         let z : i ≡ at = omega arith in
         subst (λ (j : ℕ). OnTheWay survey alphabet g kind (recs_in m code) list from top out count j cells₁ seen₁ list₁ out₁ written) z v
-    passes (suc d) i e low v =
-        let high : i < top = omega (arith, l.high) in
+    passes (suc d) i e from_k v =
+        let within : i < top = omega (arith, high) in
         passes d (i + 1) (omega arith) (omega arith)
-        (walk_passed a i v.low high (get_or list₁ i 0) (w.kept.below i high)
+        (walk_passed a i v.low within (get_or list₁ i 0) (w.kept.below i within)
         (subst (λ (γ : List Rec). Hopeless (snoc γ (record_at (basis kind γ) alphabet g.labels (get_or list₁ i 0 / (2 ^ 40))))) same
-        (l.passed i low (omega arith))) v)
+        (passed i from_k (omega arith))) v)
 
     walk_at : OnTheWay survey alphabet g kind (recs_in m code) list from top out count at cells₁ seen₁ list₁ out₁ written
-    walk_at = passes (at - k) k (omega (arith, l.low)) (omega arith) w
+    walk_at = passes (at - k) k (omega (arith, low)) (omega arith) w
 
+  -- ONE IS LOOKED FOR
+  module _ {code₂ kinds₂ : List ℕ} {found : Option Hopeful}
+      (l : LookedOn code₁ kinds₁ m n kind alphabet g.labels list₁ k top code₂ kinds₂ found) where
     -- none is left
-    pub walk_ends_all : at ≡ top
-        → CandidatesWalked survey alphabet g kind (recs_in m code) cells₁ seen₁ list from top list₁ out count (To written) out₁
+    pub walk_ends_all : found ≡ None
+        → CandidatesWalked survey alphabet g kind (recs_in m code) cells₁ seen₁ list from top list₁ out count (Some written) out₁
         × CodeKept m n code kinds code₂ kinds₂
-    walk_ends_all e = (
-      walk_ends a (omega arith) walk_at,
-      subst (λ (ks : List ℕ). CodeKept m n code kinds code₂ ks) (sym (l.none e).1)
-          (subst (λ (c : List ℕ). CodeKept m n code kinds c kinds₁) (sym (l.none e).0) s),
-    )
+    walk_ends_all e =
+        let none = l.none e in (
+          walk_ends a (omega arith) (walk_at none.low none.high none.passed),
+          subst (λ (ks : List ℕ). CodeKept m n code kinds code₂ ks) (sym none.same_kinds)
+              (subst (λ (c : List ℕ). CodeKept m n code kinds c kinds₁) (sym none.same_code) s),
+        )
 
     -- ONE IS FOUND
-    module _ (b : at < top) where
-      pub walk_turned : recs_in (m + 1) code₂
-          ≡ snoc (recs_in m code) (record_at (basis kind (recs_in m code)) alphabet g.labels (get_or list₁ at 0 / (2 ^ 40)))
-      walk_turned =
-          (l.some b).appended.records
-          ∙ ap (λ (γ : List Rec). snoc γ (record_at (basis kind γ) alphabet g.labels (get_or list₁ at 0 / (2 ^ 40)))) same
+    module _ {next : Hopeful} (b : found ≡ Some next) where
+      one : FoundAhead code₁ kinds₁ m n kind alphabet g.labels list₁ k top code₂ kinds₂ next.at next.cell next.wider
+      one = l.some next b
 
-      pub walk_grows : CanGrowPattern survey labels rank alphabet g (recs_in (m + 1) code₂) cell cells₁ seen₁ list₁ top out₁ written
+      reached : OnTheWay survey alphabet g kind (recs_in m code) list from top out count next.at cells₁ seen₁ list₁ out₁ written
+      reached = walk_at one.low (omega (arith, one.high)) one.passed
+
+      pub walk_turned : recs_in (m + 1) code₂
+          ≡ snoc (recs_in m code) (record_at (basis kind (recs_in m code)) alphabet g.labels (get_or list₁ next.at 0 / (2 ^ 40)))
+      walk_turned =
+          one.grown.appended.records
+          ∙ ap (λ (γ : List Rec). snoc γ (record_at (basis kind γ) alphabet g.labels (get_or list₁ next.at 0 / (2 ^ 40)))) same
+
+      pub walk_grows : CanGrowPattern survey labels rank alphabet g (recs_in (m + 1) code₂) next.cell cells₁ seen₁ list₁ top out₁ written
       walk_grows =
           subst (λ (c : ℕ). CanGrowPattern survey labels rank alphabet g (recs_in (m + 1) code₂) c cells₁ seen₁ list₁ top out₁ written)
-          (sym (l.cell_is b))
-          (walk_grows_on a at walk_at.low b (get_or list₁ at 0) (w.kept.below at b) walk_turned
-          (subst (λ (γ : List Rec). WellGrown (snoc γ (record_at (basis kind γ) alphabet g.labels (get_or list₁ at 0 / (2 ^ 40))))) same
-          (l.some b).well) walk_at)
+          (sym one.cell_is)
+          (walk_grows_on a next.at reached.low one.high (get_or list₁ next.at 0) (w.kept.below next.at one.high) walk_turned
+          (subst (λ (γ : List Rec). WellGrown (snoc γ (record_at (basis kind γ) alphabet g.labels (get_or list₁ next.at 0 / (2 ^ 40))))) same
+          one.grown.well) reached)
 
       -- after it
       module _ {cells₃ seen₃ list₃ out₃ : List ℕ} where
-        pub walk_fills : PatternGrown survey g (recs_in (m + 1) code₂) cells₃ seen₃ list₁ top list₃ out₁ written Stopped out₃
-            → CandidatesWalked survey alphabet g kind (recs_in m code) cells₃ seen₃ list from top list₃ out count Stopped out₃
-        walk_fills = walk_stopped a at walk_at.low b (get_or list₁ at 0) (w.kept.below at b) walk_turned walk_at
+        pub walk_fills : PatternGrown survey g (recs_in (m + 1) code₂) cells₃ seen₃ list₁ top list₃ out₁ written None out₃
+            → CandidatesWalked survey alphabet g kind (recs_in m code) cells₃ seen₃ list from top list₃ out count None out₃
+        walk_fills = walk_stopped a next.at reached.low one.high (get_or list₁ next.at 0) (w.kept.below next.at one.high) walk_turned reached
 
         pub walk_goes_on : {more : ℕ}
-            → PatternGrown survey g (recs_in (m + 1) code₂) cells₃ seen₃ list₁ top list₃ out₁ written (To more) out₃
-            → OnTheWay survey alphabet g kind (recs_in m code) list from top out count (at + 1) cells₃ seen₃ list₃ out₃ more
-        walk_goes_on = walk_next a at walk_at.low b (get_or list₁ at 0) (w.kept.below at b) walk_turned walk_at
+            → PatternGrown survey g (recs_in (m + 1) code₂) cells₃ seen₃ list₁ top list₃ out₁ written (Some more) out₃
+            → OnTheWay survey alphabet g kind (recs_in m code) list from top out count (next.at + 1) cells₃ seen₃ list₃ out₃ more
+        walk_goes_on = walk_next a next.at reached.low one.high (get_or list₁ next.at 0) (w.kept.below next.at one.high) walk_turned reached

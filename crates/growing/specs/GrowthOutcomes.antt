@@ -1,6 +1,6 @@
 -- Growing a pattern and walking its next cables: what both ask and what they leave. `out` is the page on which entries stand. Assumes
 -- nothing: these are definitions.
-use Rattle.std.specs.Prelude.{◌≡◌, Bool, true, false, List, [], ◌∷◌, map, ℕ, suc, ◌*◌, ◌≤◌, ◌<◌, length}
+use Rattle.std.specs.Prelude.{◌≡◌, Bool, true, List, [], ◌∷◌, map, ℕ, suc, ◌*◌, ◌≤◌, ◌<◌, length, Option}
 use Rattle.graphs.specs.Drawing.{Drawing, is_pattern}
 use Rattle.graphs.specs.Survey.{containing, support}
 use Rattle.codes.specs.Code.{Rec, fresh, rows_refusal, decoded, kinds_before}
@@ -18,8 +18,6 @@ use Rattle.growth.specs.Listings.{Lists, ListsMore}
 use Rattle.growth.specs.Walking.{Gives}
 use Rattle.growth.specs.Sizes.{places_size, candidates_size, entry_size}
 use Rattle.entries.specs.ListOutcomes.{Outcome, RoomLeft}
-use Rattle.entries.specs.declared.output.Growth.{Growth}
-use Rattle.entries.specs.declared.output.Growth.TheVariants.{To, Stopped}
 use Rattle.growing.specs.declared.grow.Settings.{Settings}
 use Rattle.walks.specs.LabelMarks.{drawings_of, cranes_of}
 use Rattle.walks.specs.Prepared.{Prepared}
@@ -58,14 +56,9 @@ pub record CanGrowPattern (survey labels rank alphabet : List ℕ) (g : Settings
   pub at_hand : AtHand cells seen list base (length γ)
   pub out_room : entry_size * count ≤ length out
 
--- so many entries, unless one cannot stand there
-abbrev pub growth_of : (stopped : Bool) (count : ℕ) → Growth
-growth_of true count = Stopped
-growth_of false count = To count
-
 -- AFTER GROWING
 pub record PatternGrown (survey : List ℕ) (g : Settings) (γ : List Rec) (cells seen list : List ℕ) (base : ℕ) (list_now out : List ℕ)
-    (count : ℕ) (r : Growth)
+    (count : ℕ) (r : Option ℕ)
     (out_now : List ℕ) : Type 0 where
   pub blank : Blank cells seen
   pub kept : ListKept base list list_now
@@ -103,7 +96,7 @@ pub record CanWalkCandidates (survey labels rank alphabet : List ℕ) (g : Setti
 -- AFTER WALKING the candidates qs
 pub record CandidatesWalked (survey alphabet : List ℕ) (g : Settings) (kind : ℕ) (γ : List Rec) (cells seen list : List ℕ) (from top : ℕ)
     (list_now out : List ℕ)
-    (count : ℕ) (r : Growth) (out_now : List ℕ) : Type 0 where
+    (count : ℕ) (r : Option ℕ) (out_now : List ℕ) : Type 0 where
   pub blank : Blank cells seen
   pub kept : ListKept top list list_now
   pub size : length out_now ≡ length out

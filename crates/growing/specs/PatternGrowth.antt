@@ -1,6 +1,6 @@
 -- Growing a pattern: that it may be taken up, and what is listed when it is passed over, cannot stand there, is as large as the
 -- limit, or its next cables were walked. An instance of ListingLaws. Assumes nothing.
-use Rattle.std.specs.Prelude.{◌≡◌, refl, Bool, true, List, [], ◌∷◌, map, ℕ, ◌+◌, ◌*◌, ◌≤◌, ◌<◌, length}
+use Rattle.std.specs.Prelude.{◌≡◌, refl, Bool, true, false, cond, eqb, List, [], ◌∷◌, map, ℕ, ◌+◌, ◌*◌, ◌≤◌, ◌<◌, length, Option, Some, None}
 use Rattle.std.proofs.Common.{sym, ◌∙◌, subst, eqb-true}
 use Rattle.std.proofs.Math.Path.{ap}
 use native.Mathlib.Omega.{arith}
@@ -34,11 +34,11 @@ use Rattle.growth.specs.PageLaws.{lists_next}
 use Rattle.growth.specs.ListingLaws.{gives_nothing, gives_stopped, gives_stopped_below, gives_listed, gives_leaf}
 use Rattle.entries.specs.ListOutcomes.{Outcome}
 use Rattle.entries.specs.WrittenLaws.{outcome_as}
-use Rattle.entries.specs.declared.output.Growth.{Growth}
-use Rattle.entries.specs.declared.output.Growth.TheVariants.{To, Stopped}
 use Rattle.growing.specs.declared.grow.Settings.{Settings}
 use Rattle.taking.specs.declared.take.Taken.{Taken}
 use Rattle.taking.specs.declared.take.Taken.TheVariants as answers
+use Rattle.taking.specs.declared.take.TakenOn.{TakenOn}
+use Rattle.taking.specs.declared.take.TakenOn.TheVariants as steps
 use Rattle.walks.specs.LabelMarks.{drawings_of, cranes_of}
 use Rattle.laws.specs.PutRecords.{put_record}
 use Rattle.laws.specs.PutRecordLaws.{put_length}
@@ -50,9 +50,8 @@ use Rattle.laws.specs.Parts.{part}
 use Rattle.walks.specs.Choices.{ListKept}
 use Rattle.choosing.specs.NextChosen.{RoomToChoose, CandidatesChosen}
 use Rattle.extending.specs.HeldCode.{CodeHeld}
-use Rattle.taking.specs.Taking.{CanTakeCandidate, EntryPut, CandidateTaken, over_of, stopped_of, count_of, IsTakenOn, EntryGoesOn}
+use Rattle.taking.specs.Taking.{CanTakeCandidate, EntryPut, CandidateTaken, taken_on, IsTakenOn, EntryGoesOn}
 use Rattle.growing.specs.GrowthOutcomes.{
-  growth_of,
   CanGrowPattern,
   PatternGrown,
   Fit,
@@ -127,7 +126,7 @@ module _ {survey labels rank alphabet : List ℕ} {g : Settings} {γ : List Rec}
 
   -- PASSED OVER
   pub grow_passed : (Least (decoded γ) γ → ⊥) → (z : List ℕ) → z ≡ out → PatternGrown survey g
-      γ cells seen list base list out count (To count) z
+      γ cells seen list base list out count (Some count) z
   grow_passed bad z e =
       record {
         blank = a.at_hand.blank;
@@ -143,7 +142,7 @@ module _ {survey labels rank alphabet : List ℕ} {g : Settings} {γ : List Rec}
   -- STOPPED
   pub grow_stopped :
       Least (decoded γ) γ → NotThere g.checking (entry_bytes (entry (cell_figures cell) γ)) count out → (z : List ℕ) → z ≡ out
-      → PatternGrown survey g γ cells seen list base list out count Stopped z
+      → PatternGrown survey g γ cells seen list base list out count None z
   grow_stopped l s z e =
       record {
         blank = a.at_hand.blank;
@@ -178,7 +177,7 @@ module _ {survey labels rank alphabet : List ℕ} {g : Settings} {γ : List Rec}
     mid_room = omega (arith, mid_size, p.room)
 
     -- AS LARGE AS THE LIMIT
-    pub grow_leaf : length γ ≡ g.limit → PatternGrown survey g γ cells seen list base list out count (To (count + 1)) mid
+    pub grow_leaf : length γ ≡ g.limit → PatternGrown survey g γ cells seen list base list out count (Some (count + 1)) mid
     grow_leaf e =
         record {
           blank = a.at_hand.blank;
@@ -226,7 +225,7 @@ module _ {survey labels rank alphabet : List ℕ} {g : Settings} {γ : List Rec}
           }
 
       pub grow_went :
-          {cells₃ seen₃ list₃ z : List ℕ} {r : Growth} → CandidatesWalked survey alphabet g 0
+          {cells₃ seen₃ list₃ z : List ℕ} {r : Option ℕ} → CandidatesWalked survey alphabet g 0
           γ cells₃ seen₃ list₂ base top list₃ mid more r z
           → PatternGrown survey g γ cells₃ seen₃ list base list₃ out count r z
       grow_went {z = z} {r = r} w =
@@ -250,35 +249,55 @@ module _ {survey labels rank alphabet : List ℕ} {g : Settings} {γ : List Rec}
               (fit_grown 0 c.floors γ a.some c.counting) a.set_up.one
               (chosen_places (cranes_of survey) c.sets g.threshold g.labels (part base top list₂) sets_few c.chosen) g.limit more
 
-          own_too : (cs : List (List Rec)) (old : List ℕ) (r : Growth)
+          own_too : (cs : List (List Rec)) (old : List ℕ) (r : Option ℕ)
               → Outcome g.checking (figures_of survey)
               (Listed kinds_before kinds_order (FrequentIn kinds_before survey g.threshold) g.limit γ) (snoc cs γ) old z r
               → Outcome g.checking (figures_of survey) (Gives kinds_before kinds_order (OftenIn survey g.threshold) g.limit γ) cs old z r
-          own_too cs old (To k) m =
+          own_too cs old (Some k) m =
               gives_listed (OftenIn survey g.threshold) (figures_of survey) g.limit (frequent o.put.least) a.most m
-          own_too cs old Stopped m =
+          own_too cs old None m =
               gives_stopped_below (OftenIn survey g.threshold) (figures_of survey) g.limit (frequent o.put.least) a.most m
 
-          go : (cs : List (List Rec)) (old : List ℕ) (r : Growth)
+          go : (cs : List (List Rec)) (old : List ℕ) (r : Option ℕ)
               → Outcome g.checking (figures_of survey)
               (ListedBy kinds_before kinds_order (FrequentIn kinds_before survey g.threshold) g.limit γ
               (candidates_in 0 γ alphabet g.labels (part base top list₂))) (snoc cs γ) old z r
               → Outcome g.checking (figures_of survey) (Gives kinds_before kinds_order (OftenIn survey g.threshold) g.limit γ) cs old z r
           go cs old r m = own_too cs old r (outcome_as g.checking (figures_of survey) all (snoc cs γ) old z r m)
 
-  -- THAT WAS ALL: passed over, stopped, or as large as the limit
-  module _ {over stopped : Bool} {more : ℕ} {z : List ℕ} (t : IsTakenOn g.checking γ cell g.limit count out over stopped more z) where
-    pub grow_over : {r : Growth} → over ≡ true → r ≡ growth_of stopped more → PatternGrown survey g γ cells seen list base list out count r z
-    grow_over {r} o e =
-        subst (λ (v : Growth). PatternGrown survey g γ cells seen list base list out count v z)
-        (sym (e ∙ ap (λ (b : Bool). growth_of b more) t.stopped_is ∙ ap (growth_of (stopped_of t.taken)) t.count_is))
-        (go t.taken t.told (sym t.over_is ∙ o))
+  -- THAT WAS ALL: passed over, or as large as the limit; or stopped
+  module _ {r : TakenOn} {z : List ℕ} (t : IsTakenOn g.checking γ cell g.limit count out r z) where
+    pub grow_over : {more : ℕ} → r ≡ steps.Over more → PatternGrown survey g γ cells seen list base list out count (Some more) z
+    grow_over {more} o = go t.taken t.told (sym o ∙ t.is)
       where
-        go : (v : Taken) → CandidateTaken g.checking γ cell count out v z → over_of (length γ) g.limit v ≡ true
-            → PatternGrown survey g γ cells seen list base list out count (growth_of (stopped_of v) (count_of count v)) z
-        go answers.Passed w e = grow_passed w.not_least z w.same
+        leaf : (b : Bool) → eqb (length γ) g.limit ≡ b → EntryPut γ cell count out z
+            → steps.Over more ≡ cond b (steps.Over (count + 1)) (steps.On (count + 1))
+            → PatternGrown survey g γ cells seen list base list out count (Some more) z
+        leaf true k w e =
+            let n : more ≡ count + 1 = cc in
+            rw n (grow_leaf w (eqb-true (length γ) g.limit k))
+        leaf false k w e = absurd (cc)
+
+        go : (v : Taken) → CandidateTaken g.checking γ cell count out v z → steps.Over more ≡ taken_on (length γ) g.limit count v
+            → PatternGrown survey g γ cells seen list base list out count (Some more) z
+        go answers.Passed w e =
+            let n : more ≡ count = cc in
+            rw n (grow_passed w.not_least z w.same)
+        go answers.Stopped w e = absurd (cc)
+        go answers.Listed w e = leaf (eqb (length γ) g.limit) refl w e
+
+    pub grow_ended : r ≡ steps.Stopped → PatternGrown survey g γ cells seen list base list out count None z
+    grow_ended o = go t.taken t.told (sym o ∙ t.is)
+      where
+        leaf : (b : Bool) → steps.Stopped ≡ cond b (steps.Over (count + 1)) (steps.On (count + 1)) → ⊥
+        leaf true e = cc
+        leaf false e = cc
+
+        go : (v : Taken) → CandidateTaken g.checking γ cell count out v z → steps.Stopped ≡ taken_on (length γ) g.limit count v
+            → PatternGrown survey g γ cells seen list base list out count None z
+        go answers.Passed w e = absurd (cc)
         go answers.Stopped w e = grow_stopped w.least w.back z w.same
-        go answers.Listed w e = grow_leaf w (eqb-true (length γ) g.limit e)
+        go answers.Listed w e = absurd (leaf (eqb (length γ) g.limit) e)
 
 -- IN PLACE: a code of m records in front of an array
 module _ {survey labels rank alphabet : List ℕ} {g : Settings} {code kinds : List ℕ} {m n : ℕ} (h : CodeHeld code kinds m n) {cell : ℕ}

@@ -6,13 +6,12 @@ ghost use Rattle.growth.specs.Page.{page};
 ghost use Rattle.walks.specs.LabelMarks.{drawings_of};
 ghost use Rattle.walks.specs.EmbeddingLists.{ListsKept};
 ghost use Rattle.growing.specs.ListsHanded.{ListsBelow, ListsAt};
-ghost use Rattle.growing.specs.GrowthOutcomes.{growth_of, CanGrowPattern, PatternGrown, CanWalkCandidates, CandidatesWalked};
+ghost use Rattle.growing.specs.GrowthOutcomes.{CanGrowPattern, PatternGrown, CanWalkCandidates, CandidatesWalked};
 ghost use Rattle.extending.specs.HeldCode.{CodeHeld, CodeKept};
 
 use candidates::choose::CANDIDATES;
 use choosing::next::choose_next;
 use embeddings::rows::KEPT;
-use entries::output::Growth;
 use label_ranks::ranks::{ALPHABET, LABELS};
 use listing::level::ENDS;
 use looking::ahead::next_hopeful;
@@ -31,18 +30,9 @@ pub struct Settings {
     pub checking: bool,
 }
 
-// What stands in the list after a pattern of which that was all.
-fn ended(step: TakenOn) -> Growth
-    ensures { result ≡ growth_of step.stopped step.count }
-{
-    if step.stopped {
-        return Growth::Stopped;
-    }
-    Growth::To(step.count)
-}
-
 // Grows the pattern of a code, which the drawings of a cell contain: its records stand in front in `code`, the kinds of its devices
-// in `kinds`, and it grows in place. `listed` tells whether the embeddings of the code without its last record are listed.
+// in `kinds`, and it grows in place. `listed` tells whether the embeddings of the code without its last record are listed. Answers how
+// many entries stand in the list then, or none where the next one cannot.
 #[cycle(grow_walk)]
 pub fn grow(
     survey: &[u8],
@@ -65,7 +55,7 @@ pub fn grow(
     given: &[u8],
     output: &mut [u8],
     count: usize,
-) -> Growth
+) -> Option<usize>
     requires { CanGrowPattern survey.now labels.now rank.now alphabet.now settings (recs_in cables code.old) cell
         cells.old seen.old list.old base (page settings.checking given.now output.old) count
         × CodeHeld code.old kinds.old cables devices
@@ -76,7 +66,7 @@ pub fn grow(
         × CodeKept cables devices code.old kinds.old code.new kinds.new
         × ListsKept cables kept.old ends.old kept.new ends.new }
 {
-    let step = take_on(
+    let written = match take_on(
         code,
         cables,
         devices,
@@ -86,10 +76,11 @@ pub fn grow(
         given,
         output,
         count,
-    );
-    if step.over {
-        return ended(step);
-    }
+    ) {
+        TakenOn::On(more) => more,
+        TakenOn::Over(more) => return Some(more),
+        TakenOn::Stopped => return None,
+    };
     let next = choose_next(
         survey,
         labels,
@@ -128,7 +119,7 @@ pub fn grow(
         ends,
         given,
         output,
-        step.count,
+        written,
     )
 }
 
@@ -157,7 +148,7 @@ pub fn walk(
     given: &[u8],
     output: &mut [u8],
     count: usize,
-) -> Growth
+) -> Option<usize>
     requires { CanWalkCandidates survey.now labels.now rank.now alphabet.now settings (recs_in cables code.old) kind
         cells.old seen.old list.old from top (page settings.checking given.now output.old) count
         × CodeHeld code.old kinds.old cables devices
@@ -171,23 +162,19 @@ pub fn walk(
 {
     let mut written = count;
     let mut k = from;
-    loop {
-        let next = next_hopeful(
-            code,
-            kinds,
-            cables,
-            devices,
-            kind,
-            alphabet,
-            settings.labels,
-            list,
-            k,
-            top,
-        );
-        if next.at == top {
-            return Growth::To(written);
-        }
-        let Growth::To(more) = grow(
+    while let Some(next) = next_hopeful(
+        code,
+        kinds,
+        cables,
+        devices,
+        kind,
+        alphabet,
+        settings.labels,
+        list,
+        k,
+        top,
+    ) {
+        written = grow(
             survey,
             labels,
             rank,
@@ -208,10 +195,8 @@ pub fn walk(
             given,
             output,
             written,
-        ) else {
-            return Growth::Stopped;
-        };
-        written = more;
+        )?;
         k = next.at + 1;
     }
+    Some(written)
 }

@@ -1,5 +1,5 @@
 -- The drawing at fault in the answer of a catalogue is one of the survey's; the book names none. Assumes nothing.
-use Rattle.std.specs.Prelude.{◌≡◌, refl, Bool, true, ◌&&◌, not, cond, ℕ, zero, suc, ◌+◌, ◌*◌, ◌/◌, ◌%◌, ◌≤◌, ◌<◌, ltb, leb, eqb, length}
+use Rattle.std.specs.Prelude.{◌≡◌, refl, Bool, true, Result, Ok, Err, ◌&&◌, not, cond, ℕ, zero, suc, ◌+◌, ◌*◌, ◌/◌, ◌%◌, ◌≤◌, ◌<◌, ltb, leb, eqb, length}
 use Rattle.std.proofs.Math.Bool.{false}
 use mathlib.Core.List.{List, [], ◌∷◌}
 use Rattle.std.proofs.Common.{arith, leb-true, eqb-true}
@@ -12,11 +12,9 @@ use Rattle.graphs.specs.Survey.{records_in, drawings_refusal, length_refusal, by
 use Rattle.growth.specs.Sizes.{entry_size}
 use Rattle.growth.specs.Catalogue.{Entry, OftenIn, figures_of, Figures}
 use Rattle.books.specs.Book.{Small, unsupported, book_refusal}
-use Rattle.records.specs.declared.catalogued.Catalogued.{Catalogued}
+use Rattle.records.specs.declared.refusal.Fault.{Fault}
 use Rattle.records.specs.Catalogued.{catalogued_refusal}
 use Rattle.entries.specs.Written.{EntriesWritten, ListAs, ListSays}
-use Rattle.records.specs.declared.list_checked.ListChecked.{ListChecked}
-use Rattle.records.specs.declared.list_checked.ListChecked.TheVariants.{Yes, No, Refused}
 use Rattle.records.specs.ListsChecked.{list_refusal}
 use Rattle.mining.specs.CatalogueSays.{CatalogueSays}
 use Rattle.mining.specs.CheckSays.{ToldBy, check_refusal, CheckAs, CheckSays}
@@ -67,7 +65,7 @@ survey_drawing bs s l =
 
 -- A LIST that is refused names the drawing of its refusal, and none with 15
 pub list_drawing :
-    (f : surveys.Refusal) (Wanted : Drawing → Type 0) (figure : Drawing → Figures) (l : ℕ) (r : Catalogued) (o z : List ℕ) → f.drawing < 32
+    (f : surveys.Refusal) (Wanted : Drawing → Type 0) (figure : Drawing → Figures) (l : ℕ) (r : Result ℕ Fault) (o z : List ℕ) → f.drawing < 32
     → ListSays f Wanted figure l r o z → (catalogued_refusal r).drawing < 32
 list_drawing f Wanted figure l r o z low says = go f.number says
   where
@@ -79,11 +77,11 @@ list_drawing f Wanted figure l r o z low says = go f.number says
     go zero w = written (ltb (length o) (entry_size * length w.0)) w.0 w.2
     go (suc n) w = rw w.0 low
 
-pub says_drawing : (bs : List ℕ) (s l : ℕ) (r : Catalogued) (o z : List ℕ) → CatalogueSays bs s l r o z → (catalogued_refusal r).drawing < 32
+pub says_drawing : (bs : List ℕ) (s l : ℕ) (r : Result ℕ Fault) (o z : List ℕ) → CatalogueSays bs s l r o z → (catalogued_refusal r).drawing < 32
 says_drawing bs s l r o z =
     list_drawing (survey_refusal bs s l) (OftenIn bs s) (figures_of bs) l r o z (survey_drawing bs s l)
 
-pub book_drawing : (a b l : ℕ) (r : Catalogued) (o z : List ℕ) → BookSays a b l r o z → (catalogued_refusal r).drawing < 32
+pub book_drawing : (a b l : ℕ) (r : Result ℕ Fault) (o z : List ℕ) → BookSays a b l r o z → (catalogued_refusal r).drawing < 32
 unfolding surveys.refusal
 book_drawing a b l r o z = list_drawing (surveys.refusal (book_refusal a b l) 0) (Small a b) unsupported l r o z (lit< tt)
 
@@ -93,14 +91,14 @@ unfolding check_refusal surveys.refusal
 refusal_drawing bs s l list =
     either_drawing 32 (lit< tt) (eqb (survey_refusal bs s l).number 0) _ _ (lit< tt) (survey_drawing bs s l)
 
-pub check_drawing : (bs : List ℕ) (s l : ℕ) (list : List ℕ) (r : ListChecked) → CheckSays bs s l list r → (list_refusal r).drawing < 32
+pub check_drawing : (bs : List ℕ) (s l : ℕ) (list : List ℕ) (r : Result Bool Fault) → CheckSays bs s l list r → (list_refusal r).drawing < 32
 unfolding surveys.refusal
 check_drawing bs s l list r says = go (check_refusal bs s l list).number says
   where
-    told : (A : Type 0) (r : ListChecked) → ToldBy r A → (list_refusal r).drawing < 32
-    told A Yes w = lit< tt
-    told A No w = lit< tt
-    told A (Refused f d) w = absurd w
+    told : (A : Type 0) (r : Result Bool Fault) → ToldBy r A → (list_refusal r).drawing < 32
+    told A (Ok true) w = lit< tt
+    told A (Ok false) w = lit< tt
+    told A (Err f) w = absurd w
 
     go : (n : ℕ) → CheckAs n (check_refusal bs s l list) bs s l list r → (list_refusal r).drawing < 32
     go zero w = told _ r w.2

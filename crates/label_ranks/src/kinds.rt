@@ -15,9 +15,8 @@ fn note_kinds(drawing: &[u8], occurs: &mut [bool; KINDS])
     requires { (drawing_refusal drawing.now ≡ 0) × (length occurs.old ≡ 256) }
     ensures { Noted drawing.now 10 occurs.old occurs.new }
 {
-    for u in 0..Drawing::MOST_DEVICES {
-        let kind = drawing[Drawing::KINDS_AT + u] as usize;
-        occurs[kind] = true;
+    for &kind in &drawing[Drawing::KINDS_AT..Drawing::KINDS_AT + Drawing::MOST_DEVICES] {
+        occurs[usize::from(kind)] = true;
     }
 }
 

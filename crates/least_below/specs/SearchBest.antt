@@ -13,8 +13,8 @@ use Rattle.codes.specs.Code.{Rec, rec_in, recs_in, kinds_before}
 use Rattle.codes.specs.CodeOrder.{kinds_order}
 use Rattle.codes.specs.CodeBytes.{recs_in_length}
 use Rattle.codes.specs.Searched.{Best, Chosen, begun, kept, lowered}
-use Rattle.code_records.specs.declared.«record».Order.{Order}
-use Rattle.code_records.specs.declared.«record».Order.TheVariants.{Before, Equal, After}
+use Rattle.std.specs.declared.cmp.Ordering.{Ordering}
+use Rattle.std.specs.declared.cmp.Ordering.TheVariants.{Less, Equal, Greater}
 use Rattle.code_records.specs.Records.{order_of}
 use Rattle.code_records.specs.RecordLaws.{order_before, order_equal, order_after}
 use Rattle.least_below.specs.Searches.{
@@ -43,7 +43,7 @@ module _ (bs : List ℕ) where
 
   -- THE RECORD BEHIND THEM
   module _ (n t : ℕ) (e : Rec) where
-    pub against_nothing : t ≤ n → n ≤ t → Against (recs_in t bs) (recs_in n bs) e Before
+    pub against_nothing : t ≤ n → n ≤ t → Against (recs_in t bs) (recs_in n bs) e Less
     against_nothing p q = let z : n ≡ t = omega arith in nothing_there (ap (λ (i : ℕ). recs_in i bs) z)
 
     pub record_behind : t < n → (rest : List Rec) × (recs_in n bs ≡ recs_in t bs ++ rec_in (row 5 t bs) ∷ rest)
@@ -62,11 +62,11 @@ module _ (bs : List ℕ) where
         c = rec_in (row 5 t bs)
 
         go :
-            (o : Order) → order_of e c ≡ o → (rest : List Rec) × (recs_in n bs ≡ recs_in t bs ++ rec_in (row 5 t bs) ∷ rest)
+            (o : Ordering) → order_of e c ≡ o → (rest : List Rec) × (recs_in n bs ≡ recs_in t bs ++ rec_in (row 5 t bs) ∷ rest)
             → Against (recs_in t bs) (recs_in n bs) e o
-        go Before q z = comes_before c z.0 z.1 (order_before e c q)
+        go Less q z = comes_before c z.0 z.1 (order_before e c q)
         go Equal q z = is_there z.0 (z.1 ∙ ap (λ (r : Rec). recs_in t bs ++ r ∷ z.0) (sym (order_equal e c q)))
-        go After q z = comes_after c z.0 z.1 (order_after e c q)
+        go Greater q z = comes_after c z.0 z.1 (order_after e c q)
 
 -- the rows that the best begins with are its first records
 pub best_begins :
@@ -74,23 +74,23 @@ pub best_begins :
 best_begins d δ bs n k b size = first_records bs n k δ b.rest b.is size
 
 -- what does not come before the best leaves it
-pub chosen_kept : (o : Order) (γ : List Rec) (e : Rec) (best : List Rec) → (o ≡ Before → ⊥) → best ≡ chosen_rows o γ e best
-chosen_kept Before γ e best n = absurd (n refl)
+pub chosen_kept : (o : Ordering) (γ : List Rec) (e : Rec) (best : List Rec) → (o ≡ Less → ⊥) → best ≡ chosen_rows o γ e best
+chosen_kept Less γ e best n = absurd (n refl)
 chosen_kept Equal γ e best n = refl
-chosen_kept After γ e best n = refl
+chosen_kept Greater γ e best n = refl
 
 -- what comes before the best, or nothing to go on with, is chosen; what is there already is kept
 pub against_chosen :
-    (d : Drawing) (γ best : List Rec) (e : Rec) (o : Order) → Against γ best e o → (o ≡ After → ⊥)
+    (d : Drawing) (γ best : List Rec) (e : Rec) (o : Ordering) → Against γ best e o → (o ≡ Greater → ⊥)
     → Chosen kinds_before kinds_order d γ e best (chosen_rows o γ e best)
-against_chosen d γ best e Before (nothing_there z) n = begun z
-against_chosen d γ best e Before (comes_before c rest is z) n = lowered c rest is z
+against_chosen d γ best e Less (nothing_there z) n = begun z
+against_chosen d γ best e Less (comes_before c rest is z) n = lowered c rest is z
 against_chosen d γ best e Equal (is_there rest is) n = kept rest is
-against_chosen d γ best e After a n = absurd (n refl)
+against_chosen d γ best e Greater a n = absurd (n refl)
 
 -- neither comes after
-pub before_goes_on : Before ≡ After → ⊥
+pub before_goes_on : Less ≡ Greater → ⊥
 before_goes_on e = let z : ◌≡◌ {A = ℕ} 0 1 = cc in omega arith
 
-pub equal_goes_on : Equal ≡ After → ⊥
+pub equal_goes_on : Equal ≡ Greater → ⊥
 equal_goes_on e = let z : ◌≡◌ {A = ℕ} 0 1 = cc in omega arith

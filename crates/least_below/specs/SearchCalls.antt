@@ -1,6 +1,6 @@
 -- A search below a branch, call by call: the laws of SearchLaws and SearchWays for the codes that the program holds.
 -- Assumes nothing.
-use Rattle.std.specs.Prelude.{◌≡◌, refl, List, [], ◌∷◌, ◌++◌, ℕ, ◌+◌, ◌≤◌, ◌<◌, length}
+use Rattle.std.specs.Prelude.{◌≡◌, refl, List, [], ◌∷◌, ◌++◌, ℕ, ◌+◌, ◌≤◌, ◌<◌, length, Option, Some, None}
 use Rattle.std.proofs.Common.{sym, ap, ◌∙◌, append_assoc, arith}
 use Rattle.laws.specs.Lists.{snoc, snoc_length}
 use Rattle.laws.specs.Rows.{row}
@@ -10,10 +10,10 @@ use Rattle.codes.specs.CodeOrder.{kinds_order}
 use Rattle.codes.specs.CodeBytes.{recs_in_length}
 use Rattle.codes.specs.Searched.{Chosen, chosen_best}
 use Rattle.codes.specs.BranchState.{label_of, State, with_chord}
-use Rattle.code_records.specs.declared.«record».Order.{Order}
-use Rattle.code_records.specs.declared.«record».Order.TheVariants.{Before, Equal, After}
+use Rattle.std.specs.declared.cmp.Ordering.{Ordering}
+use Rattle.std.specs.declared.cmp.Ordering.TheVariants.{Less, Equal, Greater}
 use Rattle.branches.specs.declared.extension.Extension.{Extension}
-use Rattle.branches.specs.declared.extension.Extension.TheVariants.{Chord, Edge, None}
+use Rattle.branches.specs.declared.extension.Extension.TheVariants.{Chord, Edge}
 use Rattle.branches.specs.Extensions.{ExtensionFound}
 use Rattle.branches.specs.Branches.{chorded, OnPath}
 use Rattle.branches.specs.InPlaceLaws.{chorded_is, places_at, bounds_places}
@@ -78,7 +78,7 @@ module _ {bs table : List ℕ} {m : ℕ} {b : State} (t : ℕ) (best : List ℕ)
   cable_left more = (omega (arith, size, s.few), cables_most)
 
 -- THE WAYS of the next record, one after another
-module _ {bs table : List ℕ} {m t : ℕ} {b : State} {best : List Rec} {e : Extension} {first : List ℕ} {held : ℕ}
+module _ {bs table : List ℕ} {m t : ℕ} {b : State} {best : List Rec} {e : Option Extension} {first : List ℕ} {held : ℕ}
     (z : NextChosen bs table m t b best e first held) where
   less : length (recs_in t first) < m
   less = omega (arith, recs_in_length t first, z.more)
@@ -142,7 +142,7 @@ module _ {bs table : List ℕ} {m t : ℕ} {b : State} {best : List Rec} {e : Ex
 
 -- a backward one has one way
 module _ {bs table : List ℕ} {m t : ℕ} {b : State} {best : List Rec} {q l : ℕ} {first : List ℕ} {held : ℕ}
-    (z : NextChosen bs table m t b best (Chord q l) first held) (b' : State) (is : b' ≡ with_chord b q) where
+    (z : NextChosen bs table m t b best (Some (Chord q l)) first held) (b' : State) (is : b' ≡ with_chord b q) where
   chord_call : SearchFrom bs table m (recs_in (t + 1) first) b' (recs_in held first)
   chord_call = way_call z first held 0 (ways_first z) refl b' is
 
@@ -155,7 +155,7 @@ module _ {bs table : List ℕ} {m t : ℕ} {b : State} {best : List Rec} {q l : 
 
 -- a forward one needs room for a number
 module _ {bs table : List ℕ} {m t : ℕ} {b : State} {best : List Rec} {q l : ℕ} {first : List ℕ} {held : ℕ}
-    (z : NextChosen bs table m t b best (Edge q l) first held) where
+    (z : NextChosen bs table m t b best (Some (Edge q l)) first held) where
   pub edge_placed : OnPath b.numbers b.path q × (length b.used ≡ 10)
   edge_placed = (places_at (bounds_places b (search_bounds z.from)) q z.found.place, z.from.represents.used_size)
 
@@ -163,18 +163,18 @@ module _ {bs table : List ℕ} {m t : ℕ} {b : State} {best : List Rec} {q l : 
   edge_tie_room w k = tie_room (search_sees z.from) q l w z.found k
 
 -- IT IS FOUND and compared with the best
-pub record NextMet (bs table : List ℕ) (m t : ℕ) (b : State) (best : List ℕ) (old : List Rec) (e : Extension) (next : Rec) (o : Order) : Type 0 where
+pub record NextMet (bs table : List ℕ) (m t : ℕ) (b : State) (best : List ℕ) (old : List Rec) (e : Option Extension) (next : Rec) (o : Ordering) : Type 0 where
   pub from : SearchFrom bs table m (recs_in t best) b old
   pub more : t < m
   pub found : ExtensionFound table b e
   pub is : next ≡ found_record (drawing_in bs) b e
   pub against : Against (recs_in t best) old next o
 
-module _ {bs table : List ℕ} {m t : ℕ} {b : State} {best : List ℕ} {old : List Rec} {e : Extension} {next : Rec} {o : Order}
+module _ {bs table : List ℕ} {m t : ℕ} {b : State} {best : List ℕ} {old : List Rec} {e : Option Extension} {next : Rec} {o : Ordering}
     (z : NextMet bs table m t b best old e next o) where
   -- it is chosen, and the best is then the first `kept` records of `first`
   module _
-      (n : o ≡ After → ⊥)
+      (n : o ≡ Greater → ⊥)
       (first : List ℕ)
       (kept : ℕ)
       (rows : recs_in kept first ≡ chosen_rows o (recs_in t best) next old) where
@@ -201,8 +201,8 @@ module _ {bs table : List ℕ} {m t : ℕ} {b : State} {best : List ℕ} {old : 
         }
 
     -- backward: the branch that it leads to, and what is done below it
-    module _ (q l : ℕ) (back : e ≡ Chord q l) where
-      back_chosen : NextChosen bs table m t b old (Chord q l) first kept
+    module _ (q l : ℕ) (back : e ≡ Some (Chord q l)) where
+      back_chosen : NextChosen bs table m t b old (Some (Chord q l)) first kept
       back_chosen = rw back at met_chosen
 
       back_low : chorded b next.j ≡ with_chord b q
@@ -218,15 +218,15 @@ module _ {bs table : List ℕ} {m t : ℕ} {b : State} {best : List ℕ} {old : 
       back_done after left done = rw rows_same at (chord_done back_chosen _ back_low after left done)
 
     -- forward: its ways, and what is done when all are searched
-    module _ (q l : ℕ) (front : e ≡ Edge q l) where
-      front_chosen : NextChosen bs table m t b old (Edge q l) first kept
+    module _ (q l : ℕ) (front : e ≡ Some (Edge q l)) where
+      front_chosen : NextChosen bs table m t b old (Some (Edge q l)) first kept
       front_chosen = rw front at met_chosen
 
       pub front_call : EdgesFrom bs table m t b q l first kept
       front_call = (old, front_chosen)
 
       pub front_done :
-          (after : List ℕ) (left : ℕ) → WaysDone bs table t b (Edge q l) first kept after left 10
+          (after : List ℕ) (left : ℕ) → WaysDone bs table t b (Some (Edge q l)) first kept after left 10
           → SearchDone bs (recs_in t best) b old (recs_in left after)
       front_done after left so = rw rows_same at (ways_last front_chosen after left so)
 
@@ -275,17 +275,17 @@ module _ {bs table : List ℕ} {m t : ℕ} {b : State} {best : List ℕ} {held :
       }
 
   row_found :
-      (e : Extension) → ExtensionFound table b e → r ≡ found_record (drawing_in bs) b e
+      (e : Option Extension) → ExtensionFound table b e → r ≡ found_record (drawing_in bs) b e
       → NextMet bs table m t b best (recs_in held best) e r Equal
   row_found e c q = record { from = z.from; more = z.more; found = c; is = q; against = is_there behind.0 behind.1 }
 
   pub row_back_met : (y : RowMet (drawing_in bs) table (recs_in t best) b r Back)
-      → NextMet bs table m t b best (recs_in held best) (Chord y.0 (label_of r.c r.kj)) r Equal
-  row_back_met y = row_found (Chord y.0 (label_of r.c r.kj)) y.1 (sym (chord_record_is z.from y.0 _ ∙ y.2))
+      → NextMet bs table m t b best (recs_in held best) (Some (Chord y.0 (label_of r.c r.kj))) r Equal
+  row_back_met y = row_found (Some (Chord y.0 (label_of r.c r.kj))) y.1 (sym (chord_record_is z.from y.0 _ ∙ y.2))
 
   pub row_front_met : (q l : ℕ) → RowMet (drawing_in bs) table (recs_in t best) b r (Front q l)
-      → NextMet bs table m t b best (recs_in held best) (Edge q l) r Equal
-  row_front_met q l y = row_found (Edge q l) y.0 (sym (edge_record_is z.from q l y.0.place ∙ y.1))
+      → NextMet bs table m t b best (recs_in held best) (Some (Edge q l)) r Equal
+  row_front_met q l y = row_found (Some (Edge q l)) y.0 (sym (edge_record_is z.from q l y.0.place ∙ y.1))
 
 -- WHAT IS FOUND ANEW comes before the best
 pub anew_left :
@@ -298,7 +298,7 @@ anew_left t best z = (
 
 pub anew_met :
     {bs table : List ℕ} {m : ℕ} {b : State} (t : ℕ) (best : List ℕ) {old : List Rec} → AnewFrom bs table m (recs_in t best) b old
-    → (e : Extension) → ExtensionFound table b e → (next : Rec) → next ≡ found_record (drawing_in bs) b e
-    → NextMet bs table m t b best old e next Before
+    → (e : Option Extension) → ExtensionFound table b e → (next : Rec) → next ≡ found_record (drawing_in bs) b e
+    → NextMet bs table m t b best old e next Less
 anew_met t best z e c next q =
     record { from = z.from; more = (anew_left t best z).0; found = c; is = q; against = rw q (z.before e c) }

@@ -1,6 +1,6 @@
 -- A search below a branch, record by record: what the next record and its ties establish. Rests on Searched, BranchLeast
 -- and BranchSteps. Assumes nothing.
-use Rattle.std.specs.Prelude.{◌≡◌, refl, true, List, [], ◌∷◌, ◌++◌, ◌⊎◌, ℕ, ◌-◌, ◌≤◌, ◌<◌, length, get_or}
+use Rattle.std.specs.Prelude.{◌≡◌, refl, true, List, [], ◌∷◌, ◌++◌, ◌⊎◌, ℕ, ◌-◌, ◌≤◌, ◌<◌, length, get_or, Option, Some, None, IsSome}
 use Rattle.std.proofs.Common.{sym, ap, ◌∙◌, inl, inr, arith, length-append}
 use Rattle.laws.specs.Tests.{Three, less, same, more, true_and_false}
 use Rattle.laws.specs.Orders.{StrictOrder}
@@ -19,9 +19,9 @@ use Rattle.codes.specs.BranchState.{Labels, State, numbering, chord_of, edge_of,
 use Rattle.codes.specs.BranchBounds.{Bounds, represents_bounds, numbering_size, device_is, device_kind}
 use Rattle.codes.specs.BranchLaws.{chord_found_local, edge_local}
 use Rattle.codes.specs.BranchLeast.{chord_found_least, edge_found_least, nothing_found}
-use Rattle.code_records.specs.declared.«record».Order.TheVariants.{Before}
+use Rattle.std.specs.declared.cmp.Ordering.TheVariants.{Less}
 use Rattle.branches.specs.declared.extension.Extension.{Extension}
-use Rattle.branches.specs.declared.extension.Extension.TheVariants.{Chord, Edge, None}
+use Rattle.branches.specs.declared.extension.Extension.TheVariants.{Chord, Edge}
 use Rattle.branches.specs.Extensions.{ExtensionFound}
 use Rattle.branches.specs.NextRecords.{found_record, MakesRecord}
 use Rattle.branches.specs.InPlaceLaws.{bounds_places}
@@ -59,18 +59,18 @@ module _ {bs t : List ℕ} {m : ℕ} {γ : List Rec} {b : State} {best : List Re
   search_bounds = represents_bounds d γ b ten r
 
   -- THE RECORD FOUND is the one that the rows say
-  pub chord_record_is : (q l : ℕ) → found_record (drawing_in bs) b (Chord q l) ≡ chord_of (read_rows fresh γ) b q l
+  pub chord_record_is : (q l : ℕ) → found_record (drawing_in bs) b (Some (Chord q l)) ≡ chord_of (read_rows fresh γ) b q l
   chord_record_is q l = rec_eq _ _ refl refl (device_kind d γ b ten r (b.count - 1) (omega (arith, search_bounds.two))) refl refl
 
-  pub edge_record_is : (q l : ℕ) → q < b.count → found_record (drawing_in bs) b (Edge q l) ≡ edge_of (read_rows fresh γ) b q l
+  pub edge_record_is : (q l : ℕ) → q < b.count → found_record (drawing_in bs) b (Some (Edge q l)) ≡ edge_of (read_rows fresh γ) b q l
   edge_record_is q l below = rec_eq _ _ refl refl (device_kind d γ b ten r q below) refl refl
 
   -- it is the least that goes on
   pub found_least :
-      (e : Extension) → ExtensionFound t b e
+      (e : Option Extension) → ExtensionFound t b e
       → LeastLocal kinds_before kinds_order (drawing_in bs) (read_rows fresh γ) (numbering b) (found_record (drawing_in bs) b e)
-  found_least (Chord q l) c y h = rw (chord_record_is q l) (chord_found_least d ten ends t table γ b r q l c y h)
-  found_least (Edge q l) c y h = rw (edge_record_is q l c.place) (edge_found_least d ten ends t table γ b r q l c y h)
+  found_least (Some (Chord q l)) c y h = rw (chord_record_is q l) (chord_found_least d ten ends t table γ b r q l c y h)
+  found_least (Some (Edge q l)) c y h = rw (edge_record_is q l c.place) (edge_found_least d ten ends t table γ b r q l c y h)
   found_least None c y h = absurd (nothing_found d ten ends t table γ b r c y h)
 
   -- while a cable is not listed, something goes on
@@ -87,10 +87,14 @@ module _ {bs t : List ℕ} {m : ℕ} {γ : List Rec} {b : State} {best : List Re
     pub never_none : ExtensionFound t b None → ⊥
     never_none c = let y = something less in nothing_found d ten ends t table γ b r c y.0 y.1
 
+    pub found_some : (e : Option Extension) → ExtensionFound t b e → IsSome e
+    found_some (Some e) c = refl
+    found_some None c = absurd (never_none c)
+
     pub found_local :
-        (e : Extension) → ExtensionFound t b e → Local (drawing_in bs) (read_rows fresh γ) (numbering b) (found_record (drawing_in bs) b e)
-    found_local (Chord q l) c = rw (chord_record_is q l) (chord_found_local d ten ends t table γ b r q l c)
-    found_local (Edge q l) c =
+        (e : Option Extension) → ExtensionFound t b e → Local (drawing_in bs) (read_rows fresh γ) (numbering b) (found_record (drawing_in bs) b e)
+    found_local (Some (Chord q l)) c = rw (chord_record_is q l) (chord_found_local d ten ends t table γ b r q l c)
+    found_local (Some (Edge q l)) c =
         rw (edge_record_is q l c.place) (edge_local d ten ends t table γ b r q c.device l c.place c.free c.label c.some).0
     found_local None c = absurd (never_none c)
 
@@ -98,7 +102,7 @@ module _ {bs t : List ℕ} {m : ℕ} {γ : List Rec} {b : State} {best : List Re
   pub search_sees : Sees (drawing_in bs) t γ b
   search_sees = record { ten = ten; ends = ends; labels = table; branch = r }
 
-  pub makes_record : (e : Extension) → ExtensionFound t b e → MakesRecord bs b.numbers b.path b.count b.given e
+  pub makes_record : (e : Option Extension) → ExtensionFound t b e → MakesRecord bs b.numbers b.path b.count b.given e
   makes_record e c =
       record {
         accepted = s.given.accepted;
@@ -146,8 +150,8 @@ module _ {bs t : List ℕ} {m : ℕ} {γ : List Rec} {b : State} {best : List Re
         rw is (searched_cut kinds_before kinds_order d γ (numbering b) c rest later (rw is at whole_best.0) (rw is at whole_best.1))
 
     -- something does not
-    pub search_lowers : RowMet (drawing_in bs) t γ b c Earlier → (e : Extension) → ExtensionFound t b e
-        → Against γ best (found_record (drawing_in bs) b e) Before
+    pub search_lowers : RowMet (drawing_in bs) t γ b c Earlier → (e : Option Extension) → ExtensionFound t b e
+        → Against γ best (found_record (drawing_in bs) b e) Less
     search_lowers seen e found = comes_before c rest is (go (order.tri (found_record (drawing_in bs) b e) seen.l))
       where
         order : StrictOrder rec_before

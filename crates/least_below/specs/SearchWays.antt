@@ -1,6 +1,6 @@
 -- A search below a branch, way by way: where the ways of the record found lead, and what they add up to. Rests on SearchLaws,
 -- BranchSteps, TwinBranches and Searched. Assumes nothing.
-use Rattle.std.specs.Prelude.{◌≡◌, refl, List, ◌⊎◌, ℕ, zero, suc, ◌+◌, ◌-◌, ◌≤◌, ◌<◌, length}
+use Rattle.std.specs.Prelude.{◌≡◌, refl, List, ◌⊎◌, ℕ, zero, suc, ◌+◌, ◌-◌, ◌≤◌, ◌<◌, length, Option, Some, None}
 use Rattle.std.proofs.Common.{sym, ap, ◌∙◌, subst, inl, inr, arith}
 use Rattle.std.proofs.Math.Decide.{dec_lt}
 use Rattle.laws.specs.Lists.{snoc, snoc_length}
@@ -19,7 +19,7 @@ use Rattle.codes.specs.BranchLeast.{Tie, nothing_found, edge_ties}
 use Rattle.codes.specs.BranchSteps.{represents_chord, numbering_with_edge, represents_edge}
 use Rattle.codes.specs.TwinBranches.{twin_free, twin_label, twin_edge_run}
 use Rattle.branches.specs.declared.extension.Extension.{Extension}
-use Rattle.branches.specs.declared.extension.Extension.TheVariants.{Chord, Edge, None}
+use Rattle.branches.specs.declared.extension.Extension.TheVariants.{Chord, Edge}
 use Rattle.branches.specs.Extensions.{ExtensionFound}
 use Rattle.branches.specs.NextRecords.{found_record}
 use Rattle.branches.specs.Ways as ways
@@ -55,14 +55,14 @@ module _ {bs t : List ℕ} {m : ℕ} {γ : List Rec} {b : State} {best : List Re
   Steps y = Local (drawing_in bs) (read_rows fresh γ) (numbering b) y
 
   -- A CHORD leads to the same numbering
-  chord_numbering : (q l : ℕ) → OpenPlace b q → (h : Steps (found_record (drawing_in bs) b (Chord q l))) → next h ≡ numbering b
+  chord_numbering : (q l : ℕ) → OpenPlace b q → (h : Steps (found_record (drawing_in bs) b (Some (Chord q l)))) → next h ≡ numbering b
   chord_numbering q l o =
       subst (λ (z : Rec). (h : Steps z) → next h ≡ numbering b) (sym (chord_record_is s q l))
       (λ h. chord_next d ten ends t table γ b r q l h o)
 
   -- AN EDGE to one with a device more
   module _ (q l : ℕ) (found : EdgeFound t b q l) where
-    edge_is : found_record (drawing_in bs) b (Edge q l) ≡ edge_of (read_rows fresh γ) b q l
+    edge_is : found_record (drawing_in bs) b (Some (Edge q l)) ≡ edge_of (read_rows fresh γ) b q l
     edge_is = edge_record_is s q l found.place
 
     module _ (w : ℕ) (tie : ways.TiesWay t b q l w) where
@@ -72,61 +72,61 @@ module _ {bs t : List ℕ} {m : ℕ} {γ : List Rec} {b : State} {best : List Re
       edge_numbering : numbering (with_edge b q w) ≡ snoc (numbering b) w
       edge_numbering = numbering_with_edge d ten ends t table γ b r q w room
 
-      edge_step : (h : Steps (found_record (drawing_in bs) b (Edge q l))) × (next h ≡ numbering (with_edge b q w))
+      edge_step : (h : Steps (found_record (drawing_in bs) b (Some (Edge q l)))) × (next h ≡ numbering (with_edge b q w))
       edge_step =
           rw (edge_is, edge_numbering)
           (edge_local d ten ends t table γ b r q w l found.place tie.free tie.label found.some)
 
-      edge_represents : Represents (drawing_in bs) (snoc γ (found_record (drawing_in bs) b (Edge q l))) (with_edge b q w)
+      edge_represents : Represents (drawing_in bs) (snoc γ (found_record (drawing_in bs) b (Some (Edge q l)))) (with_edge b q w)
       edge_represents =
           rw edge_is (represents_edge d ten ends t table γ b r q w l found.place tie.free tie.label found.some)
 
   -- THE STEP of a way, and the branch that it leads to
   way_step :
-      (e : Extension) → ExtensionFound t b e → (w : ℕ) → Way t b e w
+      (e : Option Extension) → ExtensionFound t b e → (w : ℕ) → Way t b e w
       → (h : Steps (found_record (drawing_in bs) b e)) × (next h ≡ numbering (followed b e w))
-  way_step (Chord q l) c w z =
-      let h : Steps (found_record (drawing_in bs) b (Chord q l)) =
+  way_step (Some (Chord q l)) c w z =
+      let h : Steps (found_record (drawing_in bs) b (Some (Chord q l))) =
       rw (chord_record_is s q l) (chord_found_local d ten ends t table γ b r q l c) in
       (h, chord_numbering q l c.place h)
-  way_step (Edge q l) c w z = edge_step q l c w z
+  way_step (Some (Edge q l)) c w z = edge_step q l c w z
   way_step None c w z = absurd z
 
   way_represents :
-      (e : Extension) → ExtensionFound t b e → (w : ℕ) → Way t b e w
+      (e : Option Extension) → ExtensionFound t b e → (w : ℕ) → Way t b e w
       → Represents (drawing_in bs) (snoc γ (found_record (drawing_in bs) b e)) (followed b e w)
-  way_represents (Chord q l) c w z =
+  way_represents (Some (Chord q l)) c w z =
       rw (chord_record_is s q l) (represents_chord d ten ends t table γ b r q l c.place c.label c.some)
-  way_represents (Edge q l) c w z = edge_represents q l c w z
+  way_represents (Some (Edge q l)) c w z = edge_represents q l c w z
   way_represents None c w z = absurd z
 
   -- ANY STEP along the record found is a way
-  edge_led : (q l : ℕ) → EdgeFound t b q l → (h : Steps (found_record (drawing_in bs) b (Edge q l))) → LedBelow t b (Edge q l) 10 (next h)
+  edge_led : (q l : ℕ) → EdgeFound t b q l → (h : Steps (found_record (drawing_in bs) b (Some (Edge q l)))) → LedBelow t b (Some (Edge q l)) 10 (next h)
   edge_led q l c =
-      subst (λ (z : Rec). (h : Steps z) → LedBelow t b (Edge q l) 10 (next h)) (sym (edge_is q l c))
+      subst (λ (z : Rec). (h : Steps z) → LedBelow t b (Some (Edge q l)) 10 (next h)) (sym (edge_is q l c))
       (λ h. led (edge_ties d ten ends t table γ b r q l c.place c.some h))
     where
-      led : {g : List ℕ} → Tie t b q l g → LedBelow t b (Edge q l) 10 g
+      led : {g : List ℕ} → Tie t b q l g → LedBelow t b (Some (Edge q l)) 10 g
       led y =
           let z : ways.TiesWay t b q l y.w = record { free = y.free; label = y.label } in
           record { w = y.w; below = y.free.below; way = z; is = y.next_is ∙ sym (edge_numbering q l c y.w z) }
 
-  step_led : (e : Extension) → ExtensionFound t b e → (h : Steps (found_record (drawing_in bs) b e)) → LedBelow t b e 10 (next h)
-  step_led (Chord q l) c h = record { w = 0; below = omega arith; way = refl; is = chord_numbering q l c.place h }
-  step_led (Edge q l) c h = edge_led q l c h
+  step_led : (e : Option Extension) → ExtensionFound t b e → (h : Steps (found_record (drawing_in bs) b e)) → LedBelow t b e 10 (next h)
+  step_led (Some (Chord q l)) c h = record { w = 0; below = omega arith; way = refl; is = chord_numbering q l c.place h }
+  step_led (Some (Edge q l)) c h = edge_led q l c h
   step_led None c h = absurd (nothing_found d ten ends t table γ b r c _ h)
 
   -- A WAY THAT IS PASSED OVER has another below it that stands for it
-  record StandsFor (e : Extension) (w : ℕ) : Type 0 where
+  record StandsFor (e : Option Extension) (w : ℕ) : Type 0 where
     u : ℕ
     below : u < w
     way : Way t b e u
     run : (δ rest : List Rec) → LeastRun kinds_before kinds_order (drawing_in bs) δ (numbering (followed b e u)) rest
         → LeastRun kinds_before kinds_order (drawing_in bs) δ (numbering (followed b e w)) rest
 
-  stands_for : (e : Extension) → ExtensionFound t b e → (w : ℕ) → Way t b e w → Passed t b e w → StandsFor e w
-  stands_for (Chord q l) c w k x = absurd x
-  stands_for (Edge q l) c w k x =
+  stands_for : (e : Option Extension) → ExtensionFound t b e → (w : ℕ) → Way t b e w → Passed t b e w → StandsFor e w
+  stands_for (Some (Chord q l)) c w k x = absurd x
+  stands_for (Some (Edge q l)) c w k x =
       let p = s.given.pattern.simple in
       record {
         u = x.u;
@@ -140,7 +140,7 @@ module _ {bs t : List ℕ} {m : ℕ} {γ : List Rec} {b : State} {best : List Re
   stands_for None c w k x = absurd x
 
   -- THE WAYS, one after another
-  module _ (e : Extension) (found : ExtensionFound t b e) (less : length γ < m) where
+  module _ (e : Option Extension) (found : ExtensionFound t b e) (less : length γ < m) where
     abbrev y : Rec
     y = found_record (drawing_in bs) b e
 

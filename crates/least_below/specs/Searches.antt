@@ -1,6 +1,6 @@
 -- The search for the least code as the program makes it: what each step is handed and what it leaves. Assumes nothing:
 -- these are definitions.
-use Rattle.std.specs.Prelude.{◌≡◌, true, List, ◌∷◌, ◌++◌, ℕ, ◌+◌, ◌≤◌, ◌<◌, length}
+use Rattle.std.specs.Prelude.{◌≡◌, true, List, ◌∷◌, ◌++◌, ℕ, ◌+◌, ◌≤◌, ◌<◌, length, Option, Some}
 use Rattle.laws.specs.Lists.{snoc}
 use Rattle.graphs.specs.Drawing.{drawing_in, drawing_refusal}
 use Rattle.graphs.specs.Graph.{Pattern}
@@ -9,8 +9,8 @@ use Rattle.codes.specs.CodeOrder.{kinds_order}
 use Rattle.codes.specs.Tight.{Tight}
 use Rattle.codes.specs.Searched.{Best, Searched, Ties, Chosen}
 use Rattle.codes.specs.BranchState.{Labels, State, numbering, Represents}
-use Rattle.code_records.specs.declared.«record».Order.{Order}
-use Rattle.code_records.specs.declared.«record».Order.TheVariants.{Before, Equal, After}
+use Rattle.std.specs.declared.cmp.Ordering.{Ordering}
+use Rattle.std.specs.declared.cmp.Ordering.TheVariants.{Less, Equal, Greater}
 use Rattle.branches.specs.declared.extension.Extension.{Extension}
 use Rattle.branches.specs.declared.extension.Extension.TheVariants.{Edge}
 use Rattle.branches.specs.Extensions.{ExtensionFound}
@@ -37,23 +37,23 @@ abbrev pub SearchDone : (bs : List ℕ) (γ : List Rec) (b : State) (best after 
 SearchDone bs γ b = Searched kinds_before kinds_order (drawing_in bs) γ (numbering b)
 
 -- HOW THE NEXT RECORD e STANDS AGAINST THE BEST behind the rows γ: there is nothing behind them, or some record first
-pub data Against (γ best : List Rec) (e : Rec) : Order → Type 0 where
-  nothing_there : best ≡ γ → Against γ best e Before
-  comes_before : (c : Rec) (rest : List Rec) → best ≡ γ ++ c ∷ rest → rec_before e c ≡ true → Against γ best e Before
+pub data Against (γ best : List Rec) (e : Rec) : Ordering → Type 0 where
+  nothing_there : best ≡ γ → Against γ best e Less
+  comes_before : (c : Rec) (rest : List Rec) → best ≡ γ ++ c ∷ rest → rec_before e c ≡ true → Against γ best e Less
   is_there : (rest : List Rec) → best ≡ γ ++ e ∷ rest → Against γ best e Equal
-  comes_after : (c : Rec) (rest : List Rec) → best ≡ γ ++ c ∷ rest → rec_before c e ≡ true → Against γ best e After
+  comes_after : (c : Rec) (rest : List Rec) → best ≡ γ ++ c ∷ rest → rec_before c e ≡ true → Against γ best e Greater
 
 -- what the best is then: one that comes after is cut, and e is its last record
-abbrev pub chosen_rows : Order → (γ : List Rec) (e : Rec) (best : List Rec) → List Rec
-chosen_rows Before γ e best = snoc γ e
+abbrev pub chosen_rows : Ordering → (γ : List Rec) (e : Rec) (best : List Rec) → List Rec
+chosen_rows Less γ e best = snoc γ e
 chosen_rows Equal γ e best = best
-chosen_rows After γ e best = best
+chosen_rows Greater γ e best = best
 
 -- THE SEARCH GOES ON ANEW from the rows γ: no record of the best is behind them, or what is found comes before it
 pub record AnewFrom (bs table : List ℕ) (m : ℕ) (γ : List Rec) (b : State) (best : List Rec) : Type 0 where
   pub from : SearchFrom bs table m γ b best
   pub more : length γ < m
-  pub before : (e : Extension) → ExtensionFound table b e → Against γ best (found_record (drawing_in bs) b e) Before
+  pub before : (e : Option Extension) → ExtensionFound table b e → Against γ best (found_record (drawing_in bs) b e) Less
 
 -- whatever the best was
 abbrev pub SomeAnewFrom : (bs table : List ℕ) (m : ℕ) (γ : List Rec) (b : State) → Type 0
@@ -63,14 +63,14 @@ abbrev pub AnewDone : (bs table : List ℕ) (m : ℕ) (γ : List Rec) (b : State
 AnewDone bs table m γ b after = (best : List Rec) → AnewFrom bs table m γ b best → SearchDone bs γ b best after
 
 -- TIES: the numberings that the ways below n lead to
-pub record LedBelow (table : List ℕ) (b : State) (e : Extension) (n : ℕ) (g : List ℕ) : Type 0 where
+pub record LedBelow (table : List ℕ) (b : State) (e : Option Extension) (n : ℕ) (g : List ℕ) : Type 0 where
   pub w : ℕ
   pub below : w < n
   pub way : Way table b e w
   pub is : g ≡ numbering (followed b e w)
 
 -- THE NEXT RECORD IS CHOSEN: it is record t of the best, which is now the first `held` records of `first`
-pub record NextChosen (bs table : List ℕ) (m t : ℕ) (b : State) (best : List Rec) (e : Extension) (first : List ℕ) (held : ℕ) : Type 0 where
+pub record NextChosen (bs table : List ℕ) (m t : ℕ) (b : State) (best : List Rec) (e : Option Extension) (first : List ℕ) (held : ℕ) : Type 0 where
   pub from : SearchFrom bs table m (recs_in t first) b best
   pub more : t < m
   pub found : ExtensionFound table b e
@@ -79,9 +79,9 @@ pub record NextChosen (bs table : List ℕ) (m t : ℕ) (b : State) (best : List
 
 -- a forward one, whatever the best was before
 abbrev pub EdgesFrom : (bs table : List ℕ) (m t : ℕ) (b : State) (q l : ℕ) (first : List ℕ) (held : ℕ) → Type 0
-EdgesFrom bs table m t b q l first held = (best : List Rec) × NextChosen bs table m t b best (Edge q l) first held
+EdgesFrom bs table m t b q l first held = (best : List Rec) × NextChosen bs table m t b best (Some (Edge q l)) first held
 
 -- its ways below n are searched, and the best is now the first `kept` records of `now`
-abbrev pub WaysDone : (bs table : List ℕ) (t : ℕ) (b : State) (e : Extension) (first : List ℕ) (held : ℕ) (now : List ℕ) (kept n : ℕ) → Type 0
+abbrev pub WaysDone : (bs table : List ℕ) (t : ℕ) (b : State) (e : Option Extension) (first : List ℕ) (held : ℕ) (now : List ℕ) (kept n : ℕ) → Type 0
 WaysDone bs table t b e first held now kept n =
     Ties kinds_before kinds_order (drawing_in bs) (recs_in (t + 1) first) (recs_in held first) (recs_in kept now) (LedBelow table b e n)

@@ -1,7 +1,7 @@
 // All codes that go on from a branch, against the best so far. The best code goes through every branch: a branch that can only
 // give a later code is left, and one that can give an earlier code cuts it. Numbers are given in place and taken back, and the
 // best code stands in one array, so that nothing is copied.
-ghost use Rattle.std.specs.Prelude.{◌≡◌, ◌<◌, length};
+ghost use Rattle.std.specs.Prelude.{◌≡◌, ◌<◌, length, Some};
 ghost use Rattle.codes.specs.Code.{recs_in};
 ghost use Rattle.codes.specs.BranchState.{first_state};
 ghost use Rattle.codes.specs.Twins.{TwinsNoted};
@@ -63,7 +63,7 @@ fn search_below(
                 path,
                 count,
                 given,
-                row.j as usize + 1,
+                usize::from(row.j) + 1,
                 best,
                 held,
             ),
@@ -80,7 +80,8 @@ fn search_below(
 }
 
 // The same where the best code has no record t, or something that goes on comes before it: it is cut to t records, and the
-// least record that goes on is its next. A backward one leads to one branch, which has the same numbers.
+// least record that goes on is its next; there is one, since a cable is left. A backward one leads to one branch, which has
+// the same numbers.
 #[cycle(search_anew_search_below_search_edges)]
 fn search_anew(
     drawing: &[u8],
@@ -104,7 +105,7 @@ fn search_anew(
         × SameArrays numbers.old numbers.new used.old used.new
         path.old path.new × (length best.new ≡ 100) }
 {
-    let found = least_extension(table, numbers, used, path, count, low);
+    let found = least_extension(table, numbers, used, path, count, low).unwrap();
     let next = next_record(drawing, numbers, path, count, given, found);
     put_record(best, t, next);
     match found {
@@ -119,7 +120,7 @@ fn search_anew(
             path,
             count,
             given,
-            next.j as usize + 1,
+            usize::from(next.j) + 1,
             best,
             t + 1,
         ),
@@ -140,7 +141,6 @@ fn search_anew(
             best,
             t + 1,
         ),
-        Extension::None => t + 1,
     }
 }
 
@@ -168,18 +168,14 @@ fn search_edges(
         q l best.old held
         × TwinsNoted table.now twins.now × (length best.old ≡ 100) }
     ensures { WaysDone drawing.now table.now t
-        (in_place numbers.old used.old path.old count given low) (Extension.Edge q l)
+        (in_place numbers.old used.old path.old count given low) (Some (Extension.Edge q l))
         best.old held best.new result 10
         × SameArrays numbers.old numbers.new used.old used.new
         path.old path.new × (length best.new ≡ 100) }
 {
     let mut kept = held;
     let mut from = 0;
-    loop {
-        let w = next_tie(table, twins, numbers, used, path, q, l, from);
-        if w == Drawing::MOST_DEVICES {
-            return kept;
-        }
+    while let Some(w) = next_tie(table, twins, numbers, used, path, q, l, from) {
         let was = give_number(numbers, used, path, given, q, w);
         kept = search_below(
             drawing,
@@ -199,6 +195,7 @@ fn search_edges(
         take_number(numbers, used, path, given, q, w, was);
         from = w + 1;
     }
+    kept
 }
 
 // All codes that begin with one record, from device u to device w.

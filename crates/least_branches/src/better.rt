@@ -6,10 +6,10 @@ ghost use Rattle.branches.specs.Branches.{in_place, SameArrays};
 ghost use Rattle.least_seen.specs.Accepting.{TestGoesOn, GoesAhead};
 
 use branches::branch::{device_at, give_number, take_number};
-use code_records::record::Order;
 use least_seen::seen::{chord_order, counted_label, is_lower, place_of, some_before, wanted_label};
 use records::code::Code;
 use records::drawing::Drawing;
+use std::cmp::Ordering;
 use tables::table::CELLS;
 
 // Of a branch that has followed the first t records: the first of the first m before which it, or one that it leads to, sees another; m if there
@@ -49,8 +49,8 @@ pub fn first_better(
     }
     let q = place_of(path, count, j);
     match chord_order(table, numbers, path, count, low, q, wanted_label(code, t)) {
-        Order::Before => t,
-        Order::Equal => first_better(
+        Ordering::Less => t,
+        Ordering::Equal => first_better(
             table,
             twins,
             code,
@@ -63,9 +63,9 @@ pub fn first_better(
             path,
             count,
             given,
-            j as usize + 1,
+            usize::from(j) + 1,
         ),
-        Order::After => m,
+        Ordering::Greater => m,
     }
 }
 

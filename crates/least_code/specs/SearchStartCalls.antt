@@ -17,8 +17,8 @@ use Rattle.codes.specs.Searched.{Best, Full, Chosen, chosen_best}
 use Rattle.codes.specs.BranchState.{first_state}
 use Rattle.records.specs.DrawingCables.{cable_at, cables_before}
 use Rattle.records.specs.CableLaws.{before_length, before_at, before_next}
-use Rattle.code_records.specs.declared.«record».Order.{Order}
-use Rattle.code_records.specs.declared.«record».Order.TheVariants.{After}
+use Rattle.std.specs.declared.cmp.Ordering.{Ordering}
+use Rattle.std.specs.declared.cmp.Ordering.TheVariants.{Greater}
 use Rattle.least_below.specs.Searches.{Given, SearchFrom, SearchDone, Against, chosen_rows}
 use Rattle.least_code.specs.Starting.{StartFrom, StartDone, Starts, no_start, CableFrom, SeenIn, OneCableMore, FirstAndBefore}
 use Rattle.least_below.specs.SearchBest.{best_begins, against_chosen}
@@ -54,13 +54,13 @@ module _ {bs table : List ℕ} {m u w k : ℕ} (best : List ℕ) (held : ℕ) (s
   module _
       (next : Rec)
       (is : next ≡ first_record (drawing_in bs) u w k)
-      (o : Order)
+      (o : Ordering)
       (stands : Against (recs_in 0 best) (recs_in held best) next o) where
-    pub start_left : o ≡ After → StartDone (drawing_in bs) u w k (recs_in held best) (recs_in held best)
+    pub start_left : o ≡ Greater → StartDone (drawing_in bs) u w k (recs_in held best) (recs_in held best)
     start_left q = start_passed s (rw (no_rows best, is, q) at stands)
 
     module _
-        (on : o ≡ After → ⊥)
+        (on : o ≡ Greater → ⊥)
         (first : List ℕ)
         (kept : ℕ)
         (rows : recs_in kept first ≡ chosen_rows o (recs_in 0 best) next (recs_in held best)) where

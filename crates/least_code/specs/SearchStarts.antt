@@ -15,7 +15,7 @@ use Rattle.codes.specs.Started.{Meets, none_yet, lowers, ties, started_skip, sta
 use Rattle.codes.specs.BranchState.{label_at, first_state}
 use Rattle.codes.specs.LabelLaws.{Labelled, cable_labelled}
 use Rattle.codes.specs.BranchSteps.{represents_first}
-use Rattle.code_records.specs.declared.«record».Order.TheVariants.{After}
+use Rattle.std.specs.declared.cmp.Ordering.TheVariants.{Greater}
 use Rattle.branches.specs.NextRecords.{first_along, MakesFirst}
 use Rattle.least_below.specs.Searches.{SearchFrom, SearchDone, Against, comes_after}
 use Rattle.least_code.specs.Starting.{StartFrom, StartDone, passed, searched, Starts, no_start, some_start}
@@ -59,7 +59,7 @@ module _ {bs table : List ℕ} {m u w k : ℕ} {best : List Rec} (s : StartFrom 
   first_is = rec_eq _ _ refl refl refl (sym its_label.cable_is) (sym its_label.kind_is)
 
   -- the best is ahead
-  pub start_passed : Against [] best first After → StartDone (drawing_in bs) u w k best best
+  pub start_passed : Against [] best first Greater → StartDone (drawing_in bs) u w k best best
   start_passed (comes_after c rest is z) = passed c rest is z refl
 
   module _ (after_first : List Rec) (chosen : Chosen kinds_before kinds_order (drawing_in bs) []

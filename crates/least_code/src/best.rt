@@ -4,16 +4,17 @@ ghost use Rattle.codes.specs.Code.{recs_in};
 ghost use Rattle.code_records.specs.Records.{as_rec};
 ghost use Rattle.least_below.specs.Searches.{Against, chosen_rows};
 
-use code_records::record::{Order, Record, put_record};
+use code_records::record::{Record, put_record};
 use records::code::Code;
+use std::cmp::Ordering;
 
 // Where the next record comes against record t of the best code, which may have no more than t records yet.
-pub(crate) fn order_at(best: &[u8; Code::BYTES], held: usize, t: usize, next: Record) -> Order
+pub(crate) fn order_at(best: &[u8; Code::BYTES], held: usize, t: usize, next: Record) -> Ordering
     requires { (t ≤ held) × (held ≤ 20) × (length best.now ≡ 100) }
     ensures { Against (recs_in t best.now) (recs_in held best.now) (as_rec next) result }
 {
     if held <= t {
-        return Order::Before;
+        return Ordering::Less;
     }
     next.order(Record::at(best, t))
 }
@@ -24,14 +25,14 @@ pub(crate) fn choose_at(
     held: usize,
     t: usize,
     next: Record,
-    order: Order,
+    order: Ordering,
 ) -> usize
     requires { (t < 20) × (length best.old ≡ 100) }
     ensures { (recs_in result best.new
         ≡ chosen_rows order (recs_in t best.old) (as_rec next) (recs_in held best.old))
         × (length best.new ≡ 100) }
 {
-    let Order::Before = order else {
+    let Ordering::Less = order else {
         return held;
     };
     put_record(best, t, next);

@@ -16,8 +16,8 @@ fn degrees(drawing: &[u8], m: usize) -> [u8; Drawing::MOST_DEVICES]
         let cable = Cable::at(drawing, c);
         let a = cable.a;
         let b = cable.b;
-        counts[a] = counts[a] + 1;
-        counts[b] = counts[b] + 1;
+        counts[a] += 1;
+        counts[b] += 1;
     }
     counts
 }
@@ -34,7 +34,7 @@ pub(crate) fn busiest(drawing: &[u8], m: usize) -> usize
         let cable = Cable::at(drawing, c);
         let a = cable.a;
         let b = cable.b;
-        let both = counts[a] as usize + counts[b] as usize;
+        let both = usize::from(counts[a]) + usize::from(counts[b]);
         if most < both {
             most = both;
             busy = c;

@@ -9,11 +9,11 @@ ghost use Rattle.least_code.specs.Starting.{StartFrom, StartDone, CableFrom, One
 use crate::best::{choose_at, order_at};
 use crate::busy::busiest;
 use branches::next::first_record;
-use code_records::record::Order;
 use least_below::below::search_first;
 use records::cable::Cable;
 use records::code::Code;
 use records::drawing::Drawing;
+use std::cmp::Ordering;
 use tables::table::{CELLS, labels_of_drawing};
 use tables::twins::twins_of;
 
@@ -37,7 +37,7 @@ fn start(
     let w = cable.b;
     let next = first_record(drawing, table, u, w);
     let order = order_at(best, held, 0, next);
-    if let Order::After = order {
+    if let Ordering::Greater = order {
         return held;
     }
     let kept = choose_at(best, held, 0, next, order);

@@ -24,13 +24,7 @@ fn record_after(code: &[u8], first: u32, k: usize) -> bool
     ensures { Decides result (RecordAfter code.now first k) }
 {
     let cable = Record::at(code, k);
-    if labels_after(first, reversed(cable)) {
-        if k == 0 {
-            return true;
-        }
-        return labels_after(first, cable);
-    }
-    false
+    labels_after(first, reversed(cable)) && (k == 0 || labels_after(first, cable))
 }
 
 // Whether those of all m records do.
@@ -38,35 +32,21 @@ fn starts_after(code: &[u8], m: usize, first: u32) -> bool
     requires { 5 * m ≤ length code.now }
     ensures { Decides result (StartsAfter code.now first m) }
 {
-    for k in 0..m {
-        if !record_after(code, first, k) {
-            return false;
-        }
-    }
-    true
+    (0..m).all(|k| record_after(code, first, k))
 }
 
 // Whether a cable goes from the device i of a record along the record's label.
 fn goes_alike(r: Record, cable: Record) -> bool
     ensures { Decides result (GoesAlike (as_rec r) (as_rec cable)) }
 {
-    if cable.i != r.i {
-        return false;
-    }
-    if cable.c != r.c {
-        return false;
-    }
-    cable.kj == r.kj
+    cable.i == r.i && cable.c == r.c && cable.kj == r.kj
 }
 
 // Whether it does, seen from one of its ends.
 fn alike_seen(r: Record, cable: Record) -> bool
     ensures { Decides result (AlikeSeen (as_rec r) (as_rec cable)) }
 {
-    if goes_alike(r, cable) {
-        return true;
-    }
-    goes_alike(r, reversed(cable))
+    goes_alike(r, cable) || goes_alike(r, reversed(cable))
 }
 
 // Whether record k goes forward and a later one of m goes like it.
@@ -75,15 +55,7 @@ fn parts_again(code: &[u8], m: usize, k: usize) -> bool
     ensures { Decides result (PartsAgain code.now m k) }
 {
     let r = Record::at(code, k);
-    if r.j < r.i {
-        return false;
-    }
-    for t in k + 1..m {
-        if alike_seen(r, Record::at(code, t)) {
-            return true;
-        }
-    }
-    false
+    r.i <= r.j && (k + 1..m).any(|t| alike_seen(r, Record::at(code, t)))
 }
 
 // Whether a record of m, but the first and the last, does; nothing follows the last.
@@ -91,12 +63,7 @@ fn some_parts(code: &[u8], m: usize) -> bool
     requires { (5 * m ≤ length code.now) × (1 ≤ m) }
     ensures { Decides result (SomeParts code.now m) }
 {
-    for k in 1..m - 1 {
-        if parts_again(code, m, k) {
-            return true;
-        }
-    }
-    false
+    (1..m - 1).any(|k| parts_again(code, m, k))
 }
 
 // Whether an accepted code of m records that has grown well is clearly least. Where it is not, it may be least all the same.
@@ -104,8 +71,5 @@ pub fn clearly_least(code: &[u8], m: usize) -> bool
     requires { (code_refusal code.now ≡ 0) × (m ≡ length code.now / 5) × WellGrown (code_records code.now) }
     ensures { result ≡ true → SomeStart (code_records code.now) m → ⊥ }
 {
-    if starts_after(code, m, labels_number(Record::at(code, 0))) {
-        return !some_parts(code, m);
-    }
-    false
+    starts_after(code, m, labels_number(Record::at(code, 0))) && !some_parts(code, m)
 }

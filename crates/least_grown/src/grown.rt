@@ -26,25 +26,11 @@ fn start_before(code: &[u8], m: usize, n: usize) -> bool
     first_of_starts(&table, &none, code, m, m - 1, n, own) < m
 }
 
-// Whether the code of m records at the front of some bytes is the least.
-fn least_front(code: &[u8], m: usize, n: usize) -> bool
-    requires { AcceptedFront code.now m n × WellGrown (recs_in m code.now) }
-    ensures { Decides result (Least (decoded (recs_in m code.now)) (recs_in m code.now)) }
-{
-    let end = Code::RECORD_BYTES * m;
-    if clearly_least(&code[..end], m) {
-        return true;
-    }
-    if start_before(&code[..end], m, n) {
-        return false;
-    }
-    true
-}
-
 // Whether an accepted code of m records, of n devices, that has grown well is the least of the drawing that it describes.
 pub fn least_grown(code: &[u8; Code::BYTES], m: usize, n: usize) -> bool
     requires { AcceptedFront code.now m n × WellGrown (recs_in m code.now) }
     ensures { Decides result (Least (decoded (recs_in m code.now)) (recs_in m code.now)) }
 {
-    least_front(code, m, n)
+    let front = &code[..Code::RECORD_BYTES * m];
+    clearly_least(front, m) || !start_before(front, m, n)
 }

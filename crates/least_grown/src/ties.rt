@@ -14,12 +14,7 @@ fn label_above(table: &[u32; CELLS], n: usize, i: usize, j: usize, wanted: u32) 
     requires { (i < 10) × (n ≤ 10) × (j < 10) }
     ensures { Decides result (LabelAbove table.now n i j wanted) }
 {
-    for w in j + 1..n {
-        if label(table, i, w) == wanted {
-            return true;
-        }
-    }
-    false
+    (j + 1..n).any(|w| label(table, i, w) == wanted)
 }
 
 // Whether record k ties.
@@ -28,10 +23,14 @@ fn tie_at(table: &[u32; CELLS], code: &[u8], m: usize, n: usize, k: usize) -> bo
     ensures { Decides result (TieAt table.now code.now n k) }
 {
     let r = Record::at(code, k);
-    if r.j < r.i {
-        return false;
-    }
-    label_above(table, n, r.i as usize, r.j as usize, wanted_label(code, k))
+    r.i <= r.j
+        && label_above(
+            table,
+            n,
+            usize::from(r.i),
+            usize::from(r.j),
+            wanted_label(code, k),
+        )
 }
 
 // Whether a record but the first and the last does; nothing follows the last.
@@ -39,10 +38,5 @@ pub fn own_tie(table: &[u32; CELLS], code: &[u8], m: usize, n: usize) -> bool
     requires { TestCounts table.now code.now m n × (1 ≤ m) }
     ensures { Decides result (OwnTie table.now code.now m n) }
 {
-    for k in 1..m - 1 {
-        if tie_at(table, code, m, n, k) {
-            return true;
-        }
-    }
-    false
+    (1..m - 1).any(|k| tie_at(table, code, m, n, k))
 }

@@ -1,6 +1,6 @@
 -- A branch against the next record of an accepted code: what is seen before it, that nothing is, and the ways on. Rests on
 -- BetterLaws and the laws of branches. Assumes nothing.
-use Rattle.std.specs.Prelude.{◌≡◌, refl, Bool, true, false, List, ◌∷◌, ◌++◌, ◌⊎◌, ℕ, ◌-◌, ◌/◌, ◌%◌, ◌≤◌, ◌<◌, get_or}
+use Rattle.std.specs.Prelude.{◌≡◌, refl, Bool, true, false, List, ◌∷◌, ◌++◌, ◌⊎◌, ℕ, ◌-◌, ◌/◌, ◌%◌, ◌≤◌, ◌<◌, get_or, Some}
 use Rattle.std.proofs.Common.{sym, ap, ◌∙◌, arith}
 use Rattle.std.proofs.Math.Path.{subst}
 use Rattle.std.proofs.Math.Logic.{inl, inr}
@@ -66,7 +66,7 @@ use Rattle.codes.specs.BranchLaws.{
 use Rattle.codes.specs.BranchLeast.{edge_ties}
 use Rattle.codes.specs.BranchSteps.{numbering_with_edge, represents_edge}
 use Rattle.branches.specs.declared.extension.Extension.TheVariants.{Chord}
-use Rattle.code_records.specs.declared.«record».Order.TheVariants.{Equal}
+use Rattle.std.specs.declared.cmp.Ordering.TheVariants.{Equal}
 use Rattle.code_records.specs.Records.{order_of}
 use Rattle.branches.specs.Ways.{chord_with}
 use Rattle.least_seen.specs.Betters.{step_order}
@@ -292,20 +292,20 @@ module _ {d : Drawing} {t : List ℕ} {γ : List Rec} {b : State} (v : Sees d t 
                 let parts = label_parts e.c e.kj byte in
                 rec_eq _ e end_is is (kind_at _ end_is) (sym parts.0) (sym parts.1)
 
-            order : step_order b (Chord q wanted) e ≡ Equal
+            order : step_order b (Some (Chord q wanted)) e ≡ Equal
             order =
                 let parts = label_parts e.c e.kj byte in
                 ap (λ (a : Rec). order_of a e) (rec_eq (chord_with b q wanted e.ki) e end_is is refl (sym parts.0) (sym parts.1))
                 ∙ order_same e
 
             pub back_represents : Represents d (snoc γ e) (with_chord b q)
-            back_represents = way_represents v e ss ok (Chord q wanted) back_found order 0 refl
+            back_represents = way_represents v e ss ok (Some (Chord q wanted)) back_found order 0 refl
 
             pub back_on : Better kinds_before d (snoc γ e) ss f → Better kinds_before d γ (e ∷ ss) f
-            back_on = way_better v e ss ok (Chord q wanted) back_found order 0 refl
+            back_on = way_better v e ss ok (Some (Chord q wanted)) back_found order 0 refl
 
             pub back_only : (Better kinds_before d (snoc γ e) ss f → ⊥) → Better kinds_before d γ (e ∷ ss) f → ⊥
-            back_only n = ways_none v e ss ok (Chord q wanted) back_found order (λ w h g. n)
+            back_only n = ways_none v e ss ok (Some (Chord q wanted)) back_found order (λ w h g. n)
 
   -- FORWARD, from the device at place q
   module _ (up : e.j < e.i → ⊥) where

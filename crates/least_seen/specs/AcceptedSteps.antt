@@ -30,7 +30,7 @@ use Rattle.codes.specs.BranchBounds.{Bounds}
 use Rattle.codes.specs.Descending.{PathPlace}
 use Rattle.codes.specs.LabelLaws.{label_cable}
 use Rattle.codes.specs.TwinBranches.{twin_label, twin_edge_better}
-use Rattle.code_records.specs.declared.«record».Order.TheVariants.{Before, Equal, After}
+use Rattle.std.specs.declared.cmp.Ordering.TheVariants.{Less, Equal, Greater}
 use Rattle.code_records.specs.RecordLaws.{record_read}
 use Rattle.tables.specs.CodeRows.{code_simple, records_through, front_records_on, front_among, front_good}
 use Rattle.branches.specs.Branches.{chorded, device_placed, Places}
@@ -205,12 +205,12 @@ module _ {t bs : List ℕ} {m n k : ℕ} {b : State} (G : TestGoesOn t bs m n k 
             go (no s) = omega arith
 
         module _ (byte : (rec_in (row 5 k bs)).kj < 256) where
-          pub told_before : ChordTold t b.numbers b.path b.count b.low q (wanted_label bs k) Before → BetterBelow bs m k b
+          pub told_before : ChordTold t b.numbers b.path b.count b.low q (wanted_label bs k) Less → BetterBelow bs m k b
           unfolding e
           told_before (inl c) = sees_earlier (back_lower v e ss ok falls q low at_j c.q c.below c.high c.some)
           told_before (inr l) = sees_earlier (back_label v e ss ok falls q low at_j byte l.0 l.1)
 
-          pub told_after : ChordTold t b.numbers b.path b.count b.low q (wanted_label bs k) After → BetterBelow bs m k b → ⊥
+          pub told_after : ChordTold t b.numbers b.path b.count b.low q (wanted_label bs k) Greater → BetterBelow bs m k b → ⊥
           unfolding e
           told_after c x = back_none v e ss ok falls q low at_j byte (none_lower c.0) c.1 c.2 (on x)
 

@@ -6,8 +6,8 @@ use Rattle.graphs.specs.Drawing.{devices}
 use Rattle.codes.specs.Code.{fresh, rec_in, recs_in, code_records, rows_refusal, read_rows, decoded}
 use Rattle.codes.specs.BranchState.{label_at, label_of, State}
 use Rattle.codes.specs.Twins.{FreeTwin}
-use Rattle.code_records.specs.declared.«record».Order.{Order}
-use Rattle.code_records.specs.declared.«record».Order.TheVariants.{Before, Equal, After}
+use Rattle.std.specs.declared.cmp.Ordering.{Ordering}
+use Rattle.std.specs.declared.cmp.Ordering.TheVariants.{Less, Equal, Greater}
 use Rattle.branches.specs.Branches.{device_placed}
 use Rattle.least_seen.specs.Betters.{Tabled, Follows}
 
@@ -41,12 +41,12 @@ Lower l wanted = (0 < l) × (l < wanted)
 
 -- the backward record to place q along the label wanted, against what is seen: a cable to a lower place or a lower label
 -- comes before it; it is there itself; or neither
-abbrev pub ChordTold : (t numbers path : List ℕ) (count low q wanted : ℕ) → Order → Type 0
-ChordTold t numbers path count low q wanted Before =
+abbrev pub ChordTold : (t numbers path : List ℕ) (count low q wanted : ℕ) → Ordering → Type 0
+ChordTold t numbers path count low q wanted Less =
     ChordBelow t numbers path count low q ⊎ Lower (chord_at t numbers path count q) wanted
 ChordTold t numbers path count low q wanted Equal =
     (ChordBelow t numbers path count low q → ⊥) × (chord_at t numbers path count q ≡ wanted)
-ChordTold t numbers path count low q wanted After =
+ChordTold t numbers path count low q wanted Greater =
     (ChordBelow t numbers path count low q → ⊥) × (chord_at t numbers path count q ≡ wanted → ⊥)
     × (Lower (chord_at t numbers path count q) wanted → ⊥)
 

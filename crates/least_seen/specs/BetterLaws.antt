@@ -1,6 +1,6 @@
 -- What an extension that is the code's next record tells of the records below a branch: every way has to be followed. Rests on Better
 -- and the laws of branches. Assumes nothing.
-use Rattle.std.specs.Prelude.{◌≡◌, refl, false, List, ◌∷◌, ◌++◌, ◌⊎◌, ℕ, ◌-◌, ◌≤◌, ◌<◌, get_or}
+use Rattle.std.specs.Prelude.{◌≡◌, refl, false, List, ◌∷◌, ◌++◌, ◌⊎◌, ℕ, ◌-◌, ◌≤◌, ◌<◌, get_or, Option, Some, None}
 use Rattle.std.proofs.Common.{sym, ap, ◌∙◌, inl, arith, ne_eqb}
 use Rattle.std.proofs.Math.Path.{subst}
 use Rattle.std.proofs.Math.Logic.{inr}
@@ -46,8 +46,8 @@ use Rattle.codes.specs.BranchLaws.{chord_found_local, chord_next, edge_local, ed
 use Rattle.codes.specs.BranchLeast.{chord_found_least, edge_found_least, edge_ties}
 use Rattle.codes.specs.BranchSteps.{represents_chord, represents_edge, numbering_with_edge}
 use Rattle.branches.specs.declared.extension.Extension.{Extension}
-use Rattle.branches.specs.declared.extension.Extension.TheVariants.{Chord, Edge, None}
-use Rattle.code_records.specs.declared.«record».Order.TheVariants.{Equal}
+use Rattle.branches.specs.declared.extension.Extension.TheVariants.{Chord, Edge}
+use Rattle.std.specs.declared.cmp.Ordering.TheVariants.{Equal}
 use Rattle.code_records.specs.Records.{order_of}
 use Rattle.code_records.specs.RecordLaws.{order_equal}
 use Rattle.branches.specs.Extensions.{ExtensionFound}
@@ -112,13 +112,13 @@ module _ {d : Drawing} {t : List ℕ} {γ : List Rec} {b : State} (v : Sees d t 
   low = device_low d γ b v.ten v.branch
 
   -- WHAT THE PROGRAM NEEDS of what is found
-  pub found_records : (s : Extension) → ExtensionFound t b s → CanRecord b.count s
-  found_records (Chord q l) c =
+  pub found_records : (s : Option Extension) → ExtensionFound t b s → CanRecord b.count s
+  found_records (Some (Chord q l)) c =
       let h : q < b.count = omega (arith, c.place.inner) in
       let g : b.count - 1 < b.count = omega (arith, c.place.inner) in
       let m = label_most (device_at b (b.count - 1)) (device_at b q) (low (b.count - 1) g) (low q h) in
       (h, c.some, omega (arith, c.label))
-  found_records (Edge q l) c =
+  found_records (Some (Edge q l)) c =
       (c.place, c.some, omega (arith, label_most (device_at b q) c.device (low q c.place) c.free.below, c.label))
   found_records None c = tt
 
@@ -144,27 +144,27 @@ module _ {d : Drawing} {t : List ℕ} {γ : List Rec} {b : State} (v : Sees d t 
         let c = rows_cons x e ss (rows_divided fresh γ (e ∷ ss) ok).1 in
         next_kind x e (step_from_test x v.branch.node.invariant e c.step c.kinds)
 
-    chord_stands : (q l : ℕ) → step_order b (Chord q l) e ≡ order_of (chord q l) e
+    chord_stands : (q l : ℕ) → step_order b (Some (Chord q l)) e ≡ order_of (chord q l) e
     chord_stands q l =
         stands_in (chord q l) e (λ i. ap (λ (n : ℕ). get_or x.kinds n 256) i ∙ kind_is)
 
-    edge_stands : (q l : ℕ) → step_order b (Edge q l) e ≡ order_of (edge q l) e
+    edge_stands : (q l : ℕ) → step_order b (Some (Edge q l)) e ≡ order_of (edge q l) e
     edge_stands q l =
         stands_in (edge q l) e (λ i. ap (λ (n : ℕ). get_or x.kinds n 256) i ∙ kind_is)
 
-    chord_equal : (q l : ℕ) → step_order b (Chord q l) e ≡ Equal → chord q l ≡ e
+    chord_equal : (q l : ℕ) → step_order b (Some (Chord q l)) e ≡ Equal → chord q l ≡ e
     chord_equal q l o = order_equal _ e (sym (chord_stands q l) ∙ o)
 
-    edge_equal : (q l : ℕ) → step_order b (Edge q l) e ≡ Equal → edge q l ≡ e
+    edge_equal : (q l : ℕ) → step_order b (Some (Edge q l)) e ≡ Equal → edge q l ≡ e
     edge_equal q l o = order_equal _ e (sym (edge_stands q l) ∙ o)
 
     -- EQUAL: each way is a branch that has followed e
-    pub way_represents : (s : Extension) → ExtensionFound t b s → step_order b s e ≡ Equal → (w : ℕ) → Way t b s w
+    pub way_represents : (s : Option Extension) → ExtensionFound t b s → step_order b s e ≡ Equal → (w : ℕ) → Way t b s w
         → Represents d (snoc γ e) (followed b s w)
-    way_represents (Chord q l) c o w k =
+    way_represents (Some (Chord q l)) c o w k =
         rw (← chord_equal q l o)
         (represents_chord d v.ten v.ends t v.labels γ b v.branch q l c.place c.label c.some)
-    way_represents (Edge q l) c o w k =
+    way_represents (Some (Edge q l)) c o w k =
         rw (← edge_equal q l o)
         (represents_edge d v.ten v.ends t v.labels γ b v.branch q w l c.place k.free k.label c.some)
     way_represents None c o w k = absurd k
@@ -187,10 +187,10 @@ module _ {d : Drawing} {t : List ℕ} {γ : List Rec} {b : State} (v : Sees d t 
         (λ (y : Rec). Better kinds_before d (snoc γ y) ss (numbering (with_edge b q w)) → Better kinds_before d γ (y ∷ ss) f) e
         (λ m. inr (h.0, rw (h.1, ← numbering_with_edge d v.ten v.ends t v.labels γ b v.branch q w (room q l w c k)) m))
 
-    pub way_better : (s : Extension) → ExtensionFound t b s → step_order b s e ≡ Equal → (w : ℕ) → Way t b s w
+    pub way_better : (s : Option Extension) → ExtensionFound t b s → step_order b s e ≡ Equal → (w : ℕ) → Way t b s w
         → Better kinds_before d (snoc γ e) ss (numbering (followed b s w)) → Better kinds_before d γ (e ∷ ss) f
-    way_better (Chord q l) c o w k = chord_better q l c e (chord_equal q l o)
-    way_better (Edge q l) c o w k = edge_better q l w c k e (edge_equal q l o)
+    way_better (Some (Chord q l)) c o w k = chord_better q l c e (chord_equal q l o)
+    way_better (Some (Edge q l)) c o w k = edge_better q l w c k e (edge_equal q l o)
     way_better None c o w k = absurd k
 
     -- where nothing is on any way, nothing is here
@@ -226,9 +226,9 @@ module _ {d : Drawing} {t : List ℕ} {γ : List Rec} {b : State} (v : Sees d t 
             none i.w k
             (rw (numbering_with_edge d v.ten v.ends t v.labels γ b v.branch q i.w (room q l i.w c k), ← i.next_is) m)
 
-    pub ways_none : (s : Extension) → ExtensionFound t b s → step_order b s e ≡ Equal
+    pub ways_none : (s : Option Extension) → ExtensionFound t b s → step_order b s e ≡ Equal
         → ((w : ℕ) → w < 10 → Way t b s w → Better kinds_before d (snoc γ e) ss (numbering (followed b s w)) → ⊥)
         → Better kinds_before d γ (e ∷ ss) f → ⊥
-    ways_none (Chord q l) c o none = chord_none q l c e (chord_equal q l o) (none 0 (omega arith) refl)
-    ways_none (Edge q l) c o none = edge_none q l c e (edge_equal q l o) (λ w k. none w k.free.below k)
+    ways_none (Some (Chord q l)) c o none = chord_none q l c e (chord_equal q l o) (none 0 (omega arith) refl)
+    ways_none (Some (Edge q l)) c o none = edge_none q l c e (edge_equal q l o) (λ w k. none w k.free.below k)
     ways_none None c o none = let z : ◌≡◌ {A = ℕ} 0 1 = cc in absurd (omega arith)

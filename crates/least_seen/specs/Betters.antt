@@ -1,5 +1,5 @@
 -- What the least test decides, branch by branch. Assumes nothing: these are definitions.
-use Rattle.std.specs.Prelude.{◌≡◌, true, List, [], ◌∷◌, ◌⊎◌, ℕ, ◌/◌, ◌≤◌, ◌<◌, length, take, drop}
+use Rattle.std.specs.Prelude.{◌≡◌, true, List, [], ◌∷◌, ◌⊎◌, ℕ, ◌/◌, ◌≤◌, ◌<◌, length, take, drop, Option, Some, None}
 use Rattle.laws.specs.Rows.{row}
 use Rattle.laws.specs.FirstSeen.{FirstPlace}
 use Rattle.graphs.specs.Drawing.{Drawing, kind}
@@ -9,17 +9,17 @@ use Rattle.codes.specs.FirstRecord.{first_record}
 use Rattle.codes.specs.Better.{Better}
 use Rattle.codes.specs.BranchState.{Labels, State, numbering, Represents}
 use Rattle.branches.specs.declared.extension.Extension.{Extension}
-use Rattle.branches.specs.declared.extension.Extension.TheVariants.{Chord, Edge, None}
-use Rattle.code_records.specs.declared.«record».Order.{Order}
-use Rattle.code_records.specs.declared.«record».Order.TheVariants.{After}
+use Rattle.branches.specs.declared.extension.Extension.TheVariants.{Chord, Edge}
+use Rattle.std.specs.declared.cmp.Ordering.{Ordering}
+use Rattle.std.specs.declared.cmp.Ordering.TheVariants.{Greater}
 use Rattle.code_records.specs.Records.{order_of}
 use Rattle.branches.specs.Ways.{chord_with, edge_with}
 
 -- HOW AN EXTENSION COMPARES with the record e: with e's kind of i, and after it where nothing goes on
-abbrev pub step_order : State → Extension → Rec → Order
-step_order b (Chord q l) e = order_of (chord_with b q l e.ki) e
-step_order b (Edge q l) e = order_of (edge_with b q l e.ki) e
-step_order b None e = After
+abbrev pub step_order : State → Option Extension → Rec → Ordering
+step_order b (Some (Chord q l)) e = order_of (chord_with b q l e.ki) e
+step_order b (Some (Edge q l)) e = order_of (edge_with b q l e.ki) e
+step_order b None e = Greater
 
 -- an accepted code with the table of what it describes
 pub record Tabled (t bs : List ℕ) : Type 0 where

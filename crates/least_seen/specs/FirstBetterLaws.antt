@@ -7,7 +7,7 @@ use Rattle.laws.specs.Rows.{row}
 use Rattle.laws.specs.FirstSeen.{place_none, place_found, place_some}
 use Rattle.codes.specs.Code.{rec_in}
 use Rattle.codes.specs.BranchState.{State, with_edge}
-use Rattle.code_records.specs.declared.«record».Order.TheVariants.{Before, Equal, After}
+use Rattle.std.specs.declared.cmp.Ordering.TheVariants.{Less, Equal, Greater}
 use Rattle.branches.specs.Branches.{chorded, device_placed}
 use Rattle.least_seen.specs.Betters.{BetterBelow, FirstBetter}
 use Rattle.least_seen.specs.Accepting.{Lower, ChordTold, FreeLabel, BeforeEdge, wanted_label, TestGoesOn}
@@ -76,10 +76,10 @@ module _ {t bs : List ℕ} {m n k : ℕ} {b : State} (G : TestGoesOn t bs m n k 
   -- BACKWARD
   module _ (back : get_or bs (5 * k) 0 < get_or bs (5 * k + 1) 0 → ⊥) (q : ℕ) (low : q < b.count) (is : get_or b.path q 0 ≡ get_or bs (5 * k + 1) 0)
       (byte : (rec_in (row 5 k bs)).kj < 256) {enough : ℕ} where
-    pub first_chord_before : ChordTold t b.numbers b.path b.count b.low q (wanted_label bs k) Before → FirstBetter bs m enough k b k
+    pub first_chord_before : ChordTold t b.numbers b.path b.count b.low q (wanted_label bs k) Less → FirstBetter bs m enough k b k
     first_chord_before c = here (told_before own (omega arith) back q low is byte c)
 
-    pub first_chord_after : ChordTold t b.numbers b.path b.count b.low q (wanted_label bs k) After → FirstBetter bs m enough k b m
+    pub first_chord_after : ChordTold t b.numbers b.path b.count b.low q (wanted_label bs k) Greater → FirstBetter bs m enough k b m
     first_chord_after c = place_none (λ j. BetterBelow bs j k b) (told_after G more back q low is byte c)
 
     pub first_chord_on : {r : ℕ} → ChordTold t b.numbers b.path b.count b.low q (wanted_label bs k) Equal

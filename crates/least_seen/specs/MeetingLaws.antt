@@ -12,8 +12,8 @@ use Rattle.codes.specs.Better.{SeesBefore}
 use Rattle.codes.specs.BranchState.{label_of, State, numbering, chord_label, edge_label, Free, NoChord, EdgeFound}
 use Rattle.codes.specs.BranchBounds.{Bounds, represents_bounds}
 use Rattle.codes.specs.Descending.{PathPlace}
-use Rattle.code_records.specs.declared.«record».Order.{Order}
-use Rattle.code_records.specs.declared.«record».Order.TheVariants.{Before, Equal, After}
+use Rattle.std.specs.declared.cmp.Ordering.{Ordering}
+use Rattle.std.specs.declared.cmp.Ordering.TheVariants.{Less, Equal, Greater}
 use Rattle.branches.specs.Branches.{OnPath, Places}
 use Rattle.branches.specs.Extensions.{LeastEdge}
 use Rattle.branches.specs.InPlaceLaws.{bounds_places, places_at}
@@ -51,10 +51,10 @@ only_later d x f e none gone l h = go ((rec_before_strict kinds_before kinds_ord
     go (more q) = absurd (none (record { l = l; local = h; earlier = q }))
 
 -- what the order of a chord tells
-abbrev pub chord_met : Order → Met
-chord_met Before = Earlier
+abbrev pub chord_met : Ordering → Met
+chord_met Less = Earlier
 chord_met Equal = Back
-chord_met After = Later
+chord_met Greater = Later
 
 module _ {d : Drawing} {t : List ℕ} {γ : List Rec} {b : State} {e : Rec} (n : RowNext d t γ b e) where
   bounds : Bounds b
@@ -90,15 +90,15 @@ module _ {d : Drawing} {t : List ℕ} {γ : List Rec} {b : State} {e : Rec} (n :
           go (no s) = omega arith
 
       pub row_back_told :
-          (o : Order) → ChordTold t b.numbers b.path b.count b.low q (label_of e.c e.kj) o → RowMet d t γ b e (chord_met o)
-      row_back_told Before (inl c) = back_lower n.sees e n.rest n.accepted falls q low is c.q c.below c.high c.some
-      row_back_told Before (inr l) = back_label n.sees e n.rest n.accepted falls q low is byte l.0 l.1
+          (o : Ordering) → ChordTold t b.numbers b.path b.count b.low q (label_of e.c e.kj) o → RowMet d t γ b e (chord_met o)
+      row_back_told Less (inl c) = back_lower n.sees e n.rest n.accepted falls q low is c.q c.below c.high c.some
+      row_back_told Less (inr l) = back_label n.sees e n.rest n.accepted falls q low is byte l.0 l.1
       row_back_told Equal c = (
         q,
         back_found n.sees e n.rest n.accepted falls q low is byte (none_lower c.0) c.1,
         back_is n.sees e n.rest n.accepted falls q low is byte (none_lower c.0) c.1,
       )
-      row_back_told After c =
+      row_back_told Greater c =
           only_later d (read_rows fresh γ) (numbering b) e
           (back_not_before n.sees e n.rest n.accepted falls q low is byte (none_lower c.0) c.2)
           (back_not_there n.sees e n.rest n.accepted falls q low is byte (none_lower c.0) c.1)

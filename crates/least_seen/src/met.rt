@@ -6,8 +6,9 @@ ghost use Rattle.least_seen.specs.Meetings.{SomeRowNext, RowTold};
 
 use crate::seen::{chord_order, is_lower, place_of, some_before};
 use branches::extension::least_edge;
-use code_records::record::{Order, Record};
+use code_records::record::Record;
 use records::drawing::Drawing;
+use std::cmp::Ordering;
 use tables::table::{CELLS, label_of};
 
 // Something that goes on comes before the row; the row is the first that does, backward, or forward from a place of the path
@@ -78,8 +79,8 @@ pub fn meet_row(
     let q = place_of(path, count, row.j);
     let wanted = label_of(row.c, row.kj);
     match chord_order(table, numbers, path, count, low, q, wanted) {
-        Order::Before => Met::Earlier,
-        Order::Equal => Met::Back,
-        Order::After => Met::Later,
+        Ordering::Less => Met::Earlier,
+        Ordering::Equal => Met::Back,
+        Ordering::Greater => Met::Later,
     }
 }

@@ -10,9 +10,9 @@ ghost use Rattle.branches.specs.Branches.{Places};
 ghost use Rattle.least_seen.specs.Accepting.{MarksNumbered, ChordBelow, FreeLabel, CountedLabel, Lower, EdgeFrom, EdgeAbove, ChordTold, BeforeEdge, wanted_label};
 
 use branches::branch::device_at;
-use code_records::record::Order;
 use records::code::Code;
 use records::drawing::Drawing;
+use std::cmp::Ordering;
 use tables::table::{CELLS, label, label_of};
 use tables::twins::has_free_twin;
 
@@ -30,12 +30,7 @@ pub fn place_of(path: &[u8; Drawing::MOST_DEVICES], count: usize, number: u8) ->
     requires { (count ≤ 10) × PathPlace count path.now number }
     ensures { (result < count) × (get_or path.now result 0 ≡ number) }
 {
-    for q in 0..count {
-        if path[q] == number {
-            return q;
-        }
-    }
-    0
+    path[..count].iter().position(|&p| p == number).unwrap()
 }
 
 // Whether the path's end has a cable to a place below `top` where a backward step may go.
@@ -51,14 +46,9 @@ fn some_chord(
     ensures { Decides result (ChordBelow table.now numbers.now path.now count low top) }
 {
     let end = device_at(numbers, path, count - 1);
-    for q in 0..top {
-        if low <= path[q] as usize {
-            if label(table, end, device_at(numbers, path, q)) != 0 {
-                return true;
-            }
-        }
-    }
-    false
+    (0..top).any(|q| {
+        low <= usize::from(path[q]) && label(table, end, device_at(numbers, path, q)) != 0
+    })
 }
 
 // The label from device u to device w if that has no number; else 0, as if no cable were there.
@@ -71,10 +61,7 @@ pub fn free_label(
     requires { (u < 10) × (w < 10) × (length used.now ≡ 10) }
     ensures { FreeLabel table.now used.now u w result }
 {
-    if used[w] {
-        return 0;
-    }
-    label(table, u, w)
+    if used[w] { 0 } else { label(table, u, w) }
 }
 
 // The same, but 0 too if a twin below w has no number: of exchangeable devices without one the first counts.
@@ -89,12 +76,11 @@ pub fn counted_label(
     ensures { CountedLabel table.now used.now u w result }
 {
     let l = free_label(table, used, u, w);
-    if l != 0 {
-        if has_free_twin(twins, used, w) {
-            return 0;
-        }
+    if l != 0 && has_free_twin(twins, used, w) {
+        0
+    } else {
+        l
     }
-    l
 }
 
 // Whether device u has a cable to a device that has no number.
@@ -102,12 +88,7 @@ fn some_edge(table: &[u32; CELLS], used: &[bool; Drawing::MOST_DEVICES], n: usiz
     requires { (u < 10) × MarksNumbered used.now n }
     ensures { Decides result (EdgeFrom table.now used.now n u) }
 {
-    for w in 0..n {
-        if free_label(table, used, u, w) != 0 {
-            return true;
-        }
-    }
-    false
+    (0..n).any(|w| free_label(table, used, u, w) != 0)
 }
 
 // Whether a place above q has.
@@ -124,22 +105,14 @@ fn some_edge_above(
     ensures { Decides result (EdgeAbove table.now numbers.now used.now
         path.now count n q) }
 {
-    for p in q + 1..count {
-        if some_edge(table, used, n, device_at(numbers, path, p)) {
-            return true;
-        }
-    }
-    false
+    (q + 1..count).any(|p| some_edge(table, used, n, device_at(numbers, path, p)))
 }
 
 // Whether a cable is there with a label below the one wanted.
 pub fn is_lower(l: u32, wanted: u32) -> bool
     ensures { Decides result (Lower l wanted) }
 {
-    if l == 0 {
-        return false;
-    }
-    l < wanted
+    l != 0 && l < wanted
 }
 
 // The backward record to place q along the label wanted, against the chords that are seen: something comes before it, it is
@@ -152,22 +125,22 @@ pub fn chord_order(
     low: usize,
     q: usize,
     wanted: u32,
-) -> Order
+) -> Ordering
     requires { Places numbers.now path.now count × (q < count) }
     ensures { ChordTold table.now numbers.now path.now count low q wanted result }
 {
     if some_chord(table, numbers, path, count, low, q) {
-        return Order::Before;
+        return Ordering::Less;
     }
     let end = device_at(numbers, path, count - 1);
     let l = label(table, end, device_at(numbers, path, q));
     if l == wanted {
-        return Order::Equal;
+        return Ordering::Equal;
     }
     if is_lower(l, wanted) {
-        return Order::Before;
+        return Ordering::Less;
     }
-    Order::After
+    Ordering::Greater
 }
 
 // Whether anything comes before the forward records from place q: a backward record, or a forward one from above.
@@ -185,8 +158,6 @@ pub fn some_before(
     ensures { Decides result (BeforeEdge table.now numbers.now used.now
         path.now count low n q) }
 {
-    if some_chord(table, numbers, path, count, low, count - 2) {
-        return true;
-    }
-    some_edge_above(table, numbers, used, path, count, n, q)
+    some_chord(table, numbers, path, count, low, count - 2)
+        || some_edge_above(table, numbers, used, path, count, n, q)
 }

@@ -12,13 +12,14 @@ ghost use Rattle.least_test.specs.StartNumbers.{NumbersLabels};
 use code_records::record::Record;
 use least_branches::better::first_better;
 use records::drawing::Drawing;
+use std::cmp::Ordering;
 use tables::table::CELLS;
 
 // The labels of a record as one number that rises as they do: kind of i, cable kind, kind of j.
 pub fn labels_number(r: Record) -> u32
     ensures { NumbersLabels (as_rec r) result }
 {
-    65536 * (r.ki as u32) + (256 * (r.c as u32) + r.kj as u32)
+    65536 * u32::from(r.ki) + (256 * u32::from(r.c) + u32::from(r.kj))
 }
 
 // A cable seen from its other end.
@@ -94,36 +95,28 @@ fn start_first_better(
         × TwinsNoted table.now twins.now }
     ensures { FirstStart code.now m enough cable.i cable.j cable.c result }
 {
-    let labels = labels_number(cable);
-    if first < labels {
-        return m;
-    }
-    if labels < first {
-        return 0;
-    }
-    if follow {
-        return branch_first_better(
+    match labels_number(cable).cmp(&first) {
+        Ordering::Less => 0,
+        Ordering::Equal if follow => branch_first_better(
             table,
             twins,
             code,
             m,
             enough,
             n,
-            cable.i as usize,
-            cable.j as usize,
-        );
+            usize::from(cable.i),
+            usize::from(cable.j),
+        ),
+        Ordering::Equal => m,
+        Ordering::Greater => m,
     }
-    m
 }
 
 // Whether the start along record k is to be followed: that along record 0 is the code's own.
 fn followed(own: bool, k: usize) -> bool
     ensures { result ≡ false → (own ≡ false) × (k ≡ 0) }
 {
-    if k == 0 {
-        return own;
-    }
-    true
+    own || k != 0
 }
 
 // The same of all starts: every cable of a code of m records, seen from each of its ends. `own` tells whether the code's own start is to be

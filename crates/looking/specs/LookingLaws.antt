@@ -1,7 +1,7 @@
 -- A code grown by the record at a place: that it can be read off, looked at and appended, and what the look ahead tells of it. Rests on
 -- HopeLaws. Assumes nothing.
-use Rattle.std.specs.Prelude.{◌≡◌, refl, Bool, true, false, List, [], ◌∷◌, ℕ, ◌+◌, ◌/◌, ◌%◌, ◌^◌, ◌≤◌, ◌<◌, length, get_or}
-use Rattle.std.proofs.Common.{sym, ap, ◌∙◌, subst, arith}
+use Rattle.std.specs.Prelude.{◌≡◌, refl, Bool, true, false, List, [], ◌∷◌, ℕ, ◌+◌, ◌/◌, ◌%◌, ◌^◌, ◌≤◌, ◌<◌, length, get_or, Option, Some, None}
+use Rattle.std.proofs.Common.{sym, ap, ◌∙◌, subst, true≢false, arith}
 use Rattle.std.proofs.Math.Decide.{dec_lt}
 use Rattle.laws.specs.Lists.{snoc}
 use Rattle.graphs.specs.Drawing.{is_pattern}
@@ -12,7 +12,23 @@ use Rattle.growth.specs.Places.{record_at}
 use Rattle.walks.specs.Hopes.{CanLook, HopelessIf}
 use Rattle.walks.specs.HopeLaws.{grown_well}
 use Rattle.extending.specs.HeldCode.{basis, CanReadOff, ReadOff, CanAppend, Appended}
-use Rattle.looking.specs.Looking.{CanLengthen, Hopeless, Lengthened, CanLookOn, LookedOn, PassedOver}
+use Rattle.looking.specs.Looking.{CanLengthen, Hopeless, GrownBy, Lengthened, CanLookOn, FoundAhead, LookedOn, PassedOver}
+use Rattle.looking.specs.declared.ahead.Hopeful.{Hopeful}
+
+-- an option holds one value or none
+abbrev held_or : {A : Type 0} → A → Option A → A
+held_or a None = a
+held_or a (Some b) = b
+
+same_held : {A : Type 0} {a b : A} → Some a ≡ Some b → a ≡ b
+same_held {a = a} q = ap (held_or a) q
+
+abbrev holds : {A : Type 0} → Option A → Bool
+holds None = false
+holds (Some a) = true
+
+not_both : {A B : Type 0} {o : Option A} {a : A} → o ≡ None → o ≡ Some a → B
+not_both n q = absurd (true≢false (sym (ap holds q) ∙ ap holds n))
 
 -- an accepted code of some records has two devices
 two_devices : (γ : List Rec) (e : Rec) → rows_refusal fresh (snoc γ e) ≡ 0 → 2 ≤ length (read_rows fresh (snoc γ e)).kinds
@@ -54,7 +70,7 @@ module _ {code kinds : List ℕ} {m devices kind : ℕ} {alphabet : List ℕ} {n
     may_append = record { room = p.work.room; accepted = accepted_next; held = p.work.held }
 
     -- THE LOOK AHEAD SAYS that the code would not be the least: it stays
-    pub looked_hopeless : {b : Bool} → b ≡ true → HopelessIf code m e b → Lengthened code kinds m devices kind alphabet n place code kinds 0
+    pub looked_hopeless : {b : Bool} → b ≡ true → HopelessIf code m e b → Lengthened code kinds m devices kind alphabet n place code kinds None
     looked_hopeless told look =
         record {
           none = λ z. (
@@ -63,32 +79,27 @@ module _ {code kinds : List ℕ} {m devices kind : ℕ} {alphabet : List ℕ} {n
             refl,
             refl,
           );
-          some = λ l. absurd (omega arith);
+          some = λ w q. not_both refl q;
         }
 
     -- it does not: the code grows
     pub looked_grown :
         {b : Bool} {code_now kinds_now : List ℕ} {more : ℕ} → b ≡ false → HopelessIf code m e b
         → Appended code kinds m devices e code_now kinds_now more
-        → Lengthened code kinds m devices kind alphabet n place code_now kinds_now more
+        → Lengthened code kinds m devices kind alphabet n place code_now kinds_now (Some more)
     looked_grown {code_now = code_now} {kinds_now} {more} told look a =
         record {
-          none = λ z. absurd (omega (arith, some));
-          some = λ l.
-              record {
-                appended = subst (λ (x : Rec). Appended code kinds m devices x code_now kinds_now more) looked_record a;
-                well = subst (λ (x : Rec). WellGrown (snoc (recs_in m code) x)) looked_record
-                    (grown_well code m e p.work.greedy (look.hopeful told));
-              };
+          none = λ z. not_both z refl;
+          some = λ w q. subst (GrownBy code kinds m devices next code_now kinds_now) (same_held q) grown;
         }
       where
-        some : 2 ≤ more
-        some =
-            omega (
-              arith,
-              a.held.met.count ∙ ap (λ (γ : List Rec). length (read_rows fresh γ).kinds) a.records,
-              two_devices (recs_in m code) e accepted_next,
-            )
+        grown : GrownBy code kinds m devices next code_now kinds_now more
+        grown =
+            record {
+              appended = subst (λ (x : Rec). Appended code kinds m devices x code_now kinds_now more) looked_record a;
+              well = subst (λ (x : Rec). WellGrown (snoc (recs_in m code) x)) looked_record
+                  (grown_well code m e p.work.greedy (look.hopeful told));
+            }
 
 -- THE PART OF THE LIST, candidate by candidate
 module _ {code kinds : List ℕ} {m devices kind : ℕ} {alphabet : List ℕ} {n : ℕ} {list : List ℕ} {from top : ℕ}
@@ -104,26 +115,28 @@ module _ {code kinds : List ℕ} {m devices kind : ℕ} {alphabet : List ℕ} {n
         (record { work = p.work; rank = p.rank; next = p.next k w.low h }))
 
     -- all of it
-    pub pass_all : top ≤ k → LookedOn code kinds m devices kind alphabet n list from top code₁ kinds₁ top 0 0
+    pub pass_all : top ≤ k → LookedOn code kinds m devices kind alphabet n list from top code₁ kinds₁ None
     pass_all h =
         record {
-          low = p.low;
-          high = omega arith;
-          passed = λ i l b. w.passed i l (omega (arith, w.high));
-          none = λ e. (w.same_code, w.same_kinds);
-          some = λ b. absurd (omega arith);
-          cell_is = λ b. absurd (omega arith);
+          none = λ z. record {
+            low = p.low;
+            high = omega arith;
+            passed = λ i l b. w.passed i l (omega (arith, w.high));
+            same_code = w.same_code;
+            same_kinds = w.same_kinds;
+          };
+          some = λ c q. not_both refl q;
         }
 
-    module _ {code₂ kinds₂ : List ℕ} {wider : ℕ}
-        (l : Lengthened code₁ kinds₁ m devices kind alphabet n (get_or list k 0 / (2 ^ 40)) code₂ kinds₂ wider) where
-      own : Lengthened code kinds m devices kind alphabet n (get_or list k 0 / (2 ^ 40)) code₂ kinds₂ wider
+    module _ {code₂ kinds₂ : List ℕ} {grown : Option ℕ}
+        (l : Lengthened code₁ kinds₁ m devices kind alphabet n (get_or list k 0 / (2 ^ 40)) code₂ kinds₂ grown) where
+      own : Lengthened code kinds m devices kind alphabet n (get_or list k 0 / (2 ^ 40)) code₂ kinds₂ grown
       own =
-          subst (λ (ks : List ℕ). Lengthened code ks m devices kind alphabet n (get_or list k 0 / (2 ^ 40)) code₂ kinds₂ wider) w.same_kinds
-          (subst (λ (c : List ℕ). Lengthened c kinds₁ m devices kind alphabet n (get_or list k 0 / (2 ^ 40)) code₂ kinds₂ wider) w.same_code l)
+          subst (λ (ks : List ℕ). Lengthened code ks m devices kind alphabet n (get_or list k 0 / (2 ^ 40)) code₂ kinds₂ grown) w.same_kinds
+          (subst (λ (c : List ℕ). Lengthened c kinds₁ m devices kind alphabet n (get_or list k 0 / (2 ^ 40)) code₂ kinds₂ grown) w.same_code l)
 
       -- one more
-      pub pass_next : k < top → wider ≡ 0 → PassedOver code kinds m kind alphabet n list from top code₂ kinds₂ (k + 1)
+      pub pass_next : k < top → grown ≡ None → PassedOver code kinds m kind alphabet n list from top code₂ kinds₂ (k + 1)
       pass_next h z =
           record {
             low = omega (arith, w.low);
@@ -148,14 +161,17 @@ module _ {code kinds : List ℕ} {m devices kind : ℕ} {alphabet : List ℕ} {n
                   (own.none z).0
 
       -- the one that is found
-      pub pass_found : k < top → 0 < wider
-          → LookedOn code kinds m devices kind alphabet n list from top code₂ kinds₂ k (get_or list k 0 % (2 ^ 40)) wider
-      pass_found h some =
+      pub pass_found : {wider : ℕ} → k < top → grown ≡ Some wider
+          → LookedOn code kinds m devices kind alphabet n list from top code₂ kinds₂
+          (Some (record { at = k; cell = get_or list k 0 % (2 ^ 40); wider = wider }))
+      pass_found {wider} h is =
           record {
-            low = w.low;
-            high = w.high;
-            passed = w.passed;
-            none = λ e. absurd (omega arith);
-            some = λ b. own.some some;
-            cell_is = λ b. refl;
+            none = λ z. not_both z refl;
+            some = λ c q.
+                subst
+                (λ (x : Hopeful). FoundAhead code kinds m devices kind alphabet n list from top code₂ kinds₂ x.at x.cell x.wider)
+                (same_held q) found;
           }
+        where
+          found : FoundAhead code kinds m devices kind alphabet n list from top code₂ kinds₂ k (get_or list k 0 % (2 ^ 40)) wider
+          found = record { low = w.low; high = h; passed = w.passed; grown = own.some wider is; cell_is = refl }

@@ -8,7 +8,7 @@ use label_ranks::ranks::ALPHABET;
 use records::code::Code;
 
 // A candidate that is worth growing: where it stands in the list, the drawings that contain the code with it, and how many devices
-// that code has. Where none is left, it stands at the end.
+// that code has.
 #[derive(Drop)]
 pub struct Hopeful {
     pub at: usize,
@@ -16,7 +16,7 @@ pub struct Hopeful {
     pub wider: usize,
 }
 
-// The code grown by the record at a place: the number of its devices, or 0 where it is certain not to be the least, and stays as it is.
+// The code grown by the record at a place: the number of its devices, or none where it is certain not to be the least, and stays as it is.
 fn lengthen(
     code: &mut [u8; Code::BYTES],
     kinds: &mut [u8; 10],
@@ -26,16 +26,16 @@ fn lengthen(
     alphabet: &[u32; ALPHABET],
     n: usize,
     place: usize,
-) -> usize
+) -> Option<usize>
     requires { CanLengthen code.old kinds.old cables devices kind alphabet.now n place }
     ensures { Lengthened code.old kinds.old cables devices kind alphabet.now n place
         code.new kinds.new result }
 {
     let next = record_at_place(kinds, devices, kind, alphabet, n, place);
     if hopeless(code, cables, next) {
-        return 0;
+        return None;
     }
-    append(code, kinds, cables, devices, next)
+    Some(append(code, kinds, cables, devices, next))
 }
 
 // The code grown by the first candidate, of a part of the list, that is worth it.
@@ -50,26 +50,21 @@ pub fn next_hopeful(
     list: &[u64; CANDIDATES],
     from: usize,
     top: usize,
-) -> Hopeful
+) -> Option<Hopeful>
     requires { CanLookOn code.old kinds.old cables devices kind alphabet.now n list.now from top }
     ensures { LookedOn code.old kinds.old cables devices kind alphabet.now n
-        list.now from top code.new kinds.new result.at result.cell result.wider }
+        list.now from top code.new kinds.new result }
 {
     for k in from..top {
         let candidate = list[k];
         let place = (candidate / PLACE) as usize;
-        let wider = lengthen(code, kinds, cables, devices, kind, alphabet, n, place);
-        if wider > 0 {
-            return Hopeful {
+        if let Some(wider) = lengthen(code, kinds, cables, devices, kind, alphabet, n, place) {
+            return Some(Hopeful {
                 at: k,
                 cell: candidate % PLACE,
                 wider,
-            };
+            });
         }
     }
-    Hopeful {
-        at: top,
-        cell: 0,
-        wider: 0,
-    }
+    None
 }

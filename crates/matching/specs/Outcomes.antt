@@ -2,10 +2,11 @@
 -- drawings are the same, or not. Rests on LeastMap and Containment. Assumes nothing.
 use Rattle.std.proofs.Math.Path.{◌≡◌, refl, ap}
 use Rattle.std.proofs.Common.{◌∙◌, arith, ltb-false}
-use Rattle.std.specs.Prelude.{Bool, false, cond, List, ℕ, zero, suc, ◌≤◌, ltb, length}
+use Rattle.std.specs.Prelude.{Bool, false, cond, List, ℕ, zero, suc, ◌≤◌, ltb, length, Option, Some, None, Result, Ok}
 use Rattle.std.proofs.Math.Bool.{true}
 use Rattle.std.proofs.Math.Logic.{⊎_elim}
-use Rattle.std.proofs.Math.Option.{Option, none, some}
+use Rattle.std.proofs.Math.Option.{none, some}
+use Rattle.std.proofs.Math.Option as maybe
 use Rattle.laws.specs.Tests.{true_and_false}
 use Rattle.graphs.specs.Drawing.{devices, drawing_in, drawing_refusal}
 use Rattle.graphs.specs.Map.{Same, maps_into, least_map, is_some, contains, Found}
@@ -15,10 +16,7 @@ use Rattle.graphs.specs.LeastMap.{least_map_found, contains_from_embedding}
 use Rattle.graphs.specs.Containment.{same_contained, contained_is_same}
 use Rattle.records.specs.Refusals.{first_of}
 use Rattle.records.specs.RefusalLaws.{first_none}
-use Rattle.matching.specs.declared.answer.Matched.{Matched}
-use Rattle.matching.specs.declared.answer.Matched.TheVariants.{Map, NotContained}
-use Rattle.matching.specs.declared.answer.Sameness.{Sameness}
-use Rattle.matching.specs.declared.answer.Sameness.TheVariants as sameness
+use Rattle.records.specs.declared.refusal.Refusal.{Refusal}
 use Rattle.matching.specs.MatchAnswers.{
   match_refusal,
   match_number,
@@ -33,19 +31,19 @@ use Rattle.graphs.specs.AcceptedDrawing.{accepted_simple}
 use Rattle.matching.specs.MatchAnswerLaws.{both_accepted, match_answered}
 
 -- A CALL THAT IS NOT TURNED BACK: both drawings are accepted, and there is room
-pub record Answered (xs ys : List ℕ) (r : Matched) (o z : List ℕ) : Type 0 where
+pub record Answered (xs ys : List ℕ) (r : Result (Option ℕ) Refusal) (o z : List ℕ) : Type 0 where
   pub pattern : drawing_refusal xs ≡ 0
   pub drawing : drawing_refusal ys ≡ 0
   pub room : devices (drawing_in xs) ≤ length o
   pub written : MapWritten (least_map (drawing_in xs) (drawing_in ys)) r o z
 
-as_zero : (n : ℕ) (l : Option (List ℕ)) (r : Matched) (o z : List ℕ) → MatchAs n l r o z → match_refusal r ≡ 0
+as_zero : (n : ℕ) (l : maybe.Option (List ℕ)) (r : Result (Option ℕ) Refusal) (o z : List ℕ) → MatchAs n l r o z → match_refusal r ≡ 0
     → (n ≡ 0) × MapWritten l r o z
 unfolding MatchAs
 as_zero zero l r o z m e = (refl, m)
 as_zero (suc n) l r o z m e = absurd (omega (arith, m.refusal))
 
-pub match_answers : {xs ys : List ℕ} {r : Matched} {o z : List ℕ} → MatchSays xs ys r o z → match_refusal r ≡ 0
+pub match_answers : {xs ys : List ℕ} {r : Result (Option ℕ) Refusal} {o z : List ℕ} → MatchSays xs ys r o z → match_refusal r ≡ 0
     → Answered xs ys r o z
 unfolding MatchSays match_number
 match_answers {xs} {ys} {r} {o} {z} m e =
@@ -65,7 +63,7 @@ match_answers {xs} {ys} {r} {o} {z} m e =
     fits false e h = ltb-false (length o) (devices (drawing_in xs)) e
 
 -- nothing else turns it back
-pub answers_unless_refused : {xs ys : List ℕ} {r : Matched} {o z : List ℕ} → MatchSays xs ys r o z
+pub answers_unless_refused : {xs ys : List ℕ} {r : Result (Option ℕ) Refusal} {o z : List ℕ} → MatchSays xs ys r o z
     → drawing_refusal xs ≡ 0 → drawing_refusal ys ≡ 0 → devices (drawing_in xs) ≤ length o → Answered xs ys r o z
 unfolding MatchSays MatchAs
 answers_unless_refused {xs} {ys} {r} {o} {z} m p d h =
@@ -77,16 +75,16 @@ answers_unless_refused {xs} {ys} {r} {o} {z} m p d h =
       written = rw (match_answered xs ys o (first_none (drawing_refusal xs) _ p ∙ d) h) at m;
     }
 
-module _ {xs ys : List ℕ} {r : Matched} {o z : List ℕ} (a : Answered xs ys r o z) where
+module _ {xs ys : List ℕ} {r : Result (Option ℕ) Refusal} {o z : List ℕ} (a : Answered xs ys r o z) where
   simple : Simple (drawing_in xs)
   simple = accepted_simple xs a.pattern
 
   -- THE BYTES WRITTEN are a map that comes before every other
-  pub written_map : (n : ℕ) → r ≡ Map n
+  pub written_map : (n : ℕ) → r ≡ Ok (Some n)
       → (f : List ℕ) × Found (drawing_in xs) (drawing_in ys) f × (n ≡ length f) × (n ≡ devices (drawing_in xs)) × (z ≡ in_front f o)
   written_map n e = go (least_map (drawing_in xs) (drawing_in ys)) refl a.written
     where
-      go : (l : Option (List ℕ)) → least_map (drawing_in xs) (drawing_in ys) ≡ l → MapWritten l r o z
+      go : (l : maybe.Option (List ℕ)) → least_map (drawing_in xs) (drawing_in ys) ≡ l → MapWritten l r o z
           → (f : List ℕ) × Found (drawing_in xs) (drawing_in ys) f × (n ≡ length f) × (n ≡ devices (drawing_in xs)) × (z ≡ in_front f o)
       go none q w = let s = w.answer in let c : ◌≡◌ {A = ℕ} 0 1 = cc in absurd (omega arith)
       go (some f) q w =
@@ -96,75 +94,75 @@ module _ {xs ys : List ℕ} {r : Matched} {o z : List ℕ} (a : Answered xs ys r
           (f, found, same, same ∙ (embedding_from_test (drawing_in xs) (drawing_in ys) f found.maps).size, w.output)
 
   -- CONTAINED, or not
-  pub map_if_contained : contains (drawing_in xs) (drawing_in ys) ≡ true → r ≡ Map (devices (drawing_in xs))
+  pub map_if_contained : contains (drawing_in xs) (drawing_in ys) ≡ true → r ≡ Ok (Some (devices (drawing_in xs)))
   unfolding contains is_some
   map_if_contained h = go (least_map (drawing_in xs) (drawing_in ys)) refl a.written
     where
-      go : (l : Option (List ℕ)) → least_map (drawing_in xs) (drawing_in ys) ≡ l → MapWritten l r o z
-          → r ≡ Map (devices (drawing_in xs))
+      go : (l : maybe.Option (List ℕ)) → least_map (drawing_in xs) (drawing_in ys) ≡ l → MapWritten l r o z
+          → r ≡ Ok (Some (devices (drawing_in xs)))
       go none q w = absurd (true_and_false h (ap is_some q))
       go (some f) q w =
           w.answer
-          ∙ ap Map
+          ∙ ap (λ (k : ℕ). Ok (Some k))
           (embedding_from_test (drawing_in xs) (drawing_in ys) f
           (least_map_found (drawing_in xs) (drawing_in ys) f simple.ends q).maps).size
 
-  pub contained_if_map : (n : ℕ) → r ≡ Map n → contains (drawing_in xs) (drawing_in ys) ≡ true
+  pub contained_if_map : (n : ℕ) → r ≡ Ok (Some n) → contains (drawing_in xs) (drawing_in ys) ≡ true
   unfolding contains is_some
   contained_if_map n e = go (least_map (drawing_in xs) (drawing_in ys)) refl a.written
     where
-      go : (l : Option (List ℕ)) → least_map (drawing_in xs) (drawing_in ys) ≡ l → MapWritten l r o z → is_some l ≡ true
+      go : (l : maybe.Option (List ℕ)) → least_map (drawing_in xs) (drawing_in ys) ≡ l → MapWritten l r o z → is_some l ≡ true
       go none q w = let s = w.answer in let c : ◌≡◌ {A = ℕ} 0 1 = cc in absurd (omega arith)
       go (some f) q w = refl
 
   -- NO MAP
-  pub no_map_if_none : r ≡ NotContained → (g : List ℕ) → maps_into (drawing_in xs) (drawing_in ys) g ≡ true → ⊥
+  pub no_map_if_none : r ≡ Ok None → (g : List ℕ) → maps_into (drawing_in xs) (drawing_in ys) g ≡ true → ⊥
   no_map_if_none e g t =
       let m = embedding_from_test (drawing_in xs) (drawing_in ys) g t in
       let s = map_if_contained (contains_from_embedding (drawing_in xs) (drawing_in ys) g simple.ends m) in
       let c : ◌≡◌ {A = ℕ} 0 1 = cc in
       omega arith
 
-  pub none_if_no_map : ((g : List ℕ) → maps_into (drawing_in xs) (drawing_in ys) g ≡ true → ⊥) → r ≡ NotContained
+  pub none_if_no_map : ((g : List ℕ) → maps_into (drawing_in xs) (drawing_in ys) g ≡ true → ⊥) → r ≡ Ok None
   none_if_no_map n = go (least_map (drawing_in xs) (drawing_in ys)) refl a.written
     where
-      go : (l : Option (List ℕ)) → least_map (drawing_in xs) (drawing_in ys) ≡ l → MapWritten l r o z → r ≡ NotContained
+      go : (l : maybe.Option (List ℕ)) → least_map (drawing_in xs) (drawing_in ys) ≡ l → MapWritten l r o z → r ≡ Ok None
       go none q w = w.answer
       go (some f) q w = absurd (n f (least_map_found (drawing_in xs) (drawing_in ys) f simple.ends q).maps)
 
 -- SAMENESS of two accepted drawings: yes exactly if they are the same, no exactly if not
-yes_or_no : {r : Sameness} → r ≡ sameness.Yes → r ≡ sameness.No → ⊥
+yes_or_no : {r : Result Bool Refusal} → r ≡ Ok true → r ≡ Ok false → ⊥
 yes_or_no y n = let c : ◌≡◌ {A = ℕ} 0 1 = cc in omega arith
 
-module _ (xs ys : List ℕ) (r : Sameness) (ok_x : drawing_refusal xs ≡ 0) (ok_y : drawing_refusal ys ≡ 0)
+module _ (xs ys : List ℕ) (r : Result Bool Refusal) (ok_x : drawing_refusal xs ≡ 0) (ok_y : drawing_refusal ys ≡ 0)
     (says : SameSays xs ys r) where
-  told : {A : Type 0} → (r ≡ sameness.Yes → Same (drawing_in xs) (drawing_in ys) → A)
-      → (r ≡ sameness.No → (Same (drawing_in xs) (drawing_in ys) → ⊥) → A) → A
+  told : {A : Type 0} → (r ≡ Ok true → Same (drawing_in xs) (drawing_in ys) → A)
+      → (r ≡ Ok false → (Same (drawing_in xs) (drawing_in ys) → ⊥) → A) → A
   unfolding SameSays SameAs
   told same differ =
       ⊎_elim (λ a. same a.0 a.1) (λ a. differ a.0 a.1)
       (rw (first_none (drawing_refusal xs) (drawing_refusal ys) ok_x, ok_y) at says)
 
-  pub same_if_yes : r ≡ sameness.Yes → Same (drawing_in xs) (drawing_in ys)
+  pub same_if_yes : r ≡ Ok true → Same (drawing_in xs) (drawing_in ys)
   same_if_yes e = told (λ y s. s) (λ n d. absurd (yes_or_no e n))
 
-  pub yes_if_same : Same (drawing_in xs) (drawing_in ys) → r ≡ sameness.Yes
+  pub yes_if_same : Same (drawing_in xs) (drawing_in ys) → r ≡ Ok true
   yes_if_same s = told (λ y t. y) (λ n d. absurd (d s))
 
-  pub differ_if_no : r ≡ sameness.No → Same (drawing_in xs) (drawing_in ys) → ⊥
+  pub differ_if_no : r ≡ Ok false → Same (drawing_in xs) (drawing_in ys) → ⊥
   differ_if_no e s = yes_or_no (yes_if_same s) e
 
-  pub no_if_differ : (Same (drawing_in xs) (drawing_in ys) → ⊥) → r ≡ sameness.No
+  pub no_if_differ : (Same (drawing_in xs) (drawing_in ys) → ⊥) → r ≡ Ok false
   no_if_differ d = told (λ y s. absurd (d s)) (λ n e. n)
 
   -- two drawings are the same if the first is contained in the second with n and m equal
-  pub yes_is_contained : r ≡ sameness.Yes
+  pub yes_is_contained : r ≡ Ok true
       → (contains (drawing_in xs) (drawing_in ys) ≡ true) × (devices (drawing_in xs) ≡ devices (drawing_in ys))
       × (length (drawing_in xs).cables ≡ length (drawing_in ys).cables)
   yes_is_contained e =
       same_contained (drawing_in xs) (drawing_in ys) (accepted_simple xs ok_x) (accepted_simple ys ok_y) (same_if_yes e)
 
   pub contained_is_yes : contains (drawing_in xs) (drawing_in ys) ≡ true → devices (drawing_in xs) ≡ devices (drawing_in ys)
-      → length (drawing_in xs).cables ≡ length (drawing_in ys).cables → r ≡ sameness.Yes
+      → length (drawing_in xs).cables ≡ length (drawing_in ys).cables → r ≡ Ok true
   contained_is_yes h n m =
       yes_if_same (contained_is_same (drawing_in xs) (drawing_in ys) (accepted_simple xs ok_x) (accepted_simple ys ok_y) h n m)

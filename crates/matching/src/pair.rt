@@ -4,14 +4,12 @@ ghost use Rattle.graphs.specs.Drawing.{drawing_refusal};
 ghost use Rattle.records.specs.Refusals.{checked_number, first_of};
 
 use checks::drawing::check_drawing;
-use records::refusal::Checked;
+use records::refusal::Refusal;
 
 // The first reason to refuse one of two drawings: the first is checked fully before the second.
-pub(crate) fn check_both(first: &[u8], second: &[u8]) -> Checked
+pub(crate) fn check_both(first: &[u8], second: &[u8]) -> Result<(), Refusal>
     ensures { checked_number result ≡ first_of (drawing_refusal first.now) (drawing_refusal second.now) }
 {
-    if let Checked::Refused(r) = check_drawing(first) {
-        return Checked::Refused(r);
-    }
+    check_drawing(first)?;
     check_drawing(second)
 }

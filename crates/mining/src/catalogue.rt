@@ -5,39 +5,42 @@ ghost use Rattle.mining.specs.CatalogueSays.{CatalogueSays};
 ghost use Rattle.mining.specs.WriteLaws.{Writes};
 
 use crate::settings::{USUAL_LIMIT, USUAL_THRESHOLD, check_settings};
-use entries::output::Growth;
 use records::bytes::clear;
-use records::catalogued::Catalogued;
-use records::refusal::Refusal;
-use records::survey::SurveyChecked;
+use records::refusal::{Fault, Refusal};
 use survey_patterns::survey::mine_survey;
 
 // Writes the catalogue of an accepted survey. No list is given: the survey stands in its place, and is not looked at there.
-fn write_accepted(survey: &[u8], threshold: usize, limit: usize, output: &mut [u8]) -> Catalogued
+fn write_accepted(
+    survey: &[u8],
+    threshold: usize,
+    limit: usize,
+    output: &mut [u8],
+) -> Result<usize, Fault>
     requires { AcceptedSettings survey.now threshold limit }
     ensures { Writes survey.now threshold limit output.old result output.new }
 {
-    match mine_survey(survey, threshold, limit, false, survey, output) {
-        Growth::To(entries) => Catalogued::Entries(entries),
-        Growth::Stopped => {
-            clear(output);
-            Catalogued::Refused(Refusal::OutputLength, 0)
-        }
-    }
+    let Some(entries) = mine_survey(survey, threshold, limit, false, survey, output) else {
+        clear(output);
+        return Err(Fault::from(Refusal::OutputLength));
+    };
+    Ok(entries)
 }
 
 // Writes the catalogue of a survey: all patterns of at most `limit` cables that drawings of at least `threshold` cranes contain.
-pub fn write_catalogue(survey: &[u8], threshold: u32, limit: u32, output: &mut [u8]) -> Catalogued
+pub fn write_catalogue(
+    survey: &[u8],
+    threshold: u32,
+    limit: u32,
+    output: &mut [u8],
+) -> Result<usize, Fault>
     ensures { CatalogueSays survey.now threshold limit result output.old output.new }
 {
-    if let SurveyChecked::Refused(r, d) = check_settings(survey, threshold, limit) {
-        return Catalogued::Refused(r, d);
-    }
+    check_settings(survey, threshold, limit)?;
     write_accepted(survey, threshold as usize, limit as usize, output)
 }
 
 // The usual catalogue: what drawings of at least two cranes contain, up to six cables.
-pub fn usual_catalogue(survey: &[u8], output: &mut [u8]) -> Catalogued
+pub fn usual_catalogue(survey: &[u8], output: &mut [u8]) -> Result<usize, Fault>
     ensures { CatalogueSays survey.now usual.threshold usual.limit result output.old output.new }
 {
     write_catalogue(survey, USUAL_THRESHOLD, USUAL_LIMIT, output)

@@ -6,10 +6,8 @@ ghost use Rattle.mining.specs.CheckSays.{CheckSays};
 ghost use Rattle.mining.specs.ListCheckLaws.{HoldsList};
 
 use crate::settings::{FORMER_LIMIT, FORMER_THRESHOLD, USUAL_LIMIT, USUAL_THRESHOLD, check_given};
-use entries::output::Growth;
 use records::entry::Entry;
-use records::list_checked::ListChecked;
-use records::survey::SurveyChecked;
+use records::refusal::Fault;
 use survey_patterns::survey::mine_survey;
 
 // Holds a list against the patterns of an accepted survey: it is the catalogue if all their entries stand there and nothing is left. No
@@ -19,7 +17,7 @@ fn holds(survey: &[u8], threshold: usize, limit: usize, list: &[u8]) -> bool
     ensures { HoldsList survey.now threshold limit list.now result }
 {
     let mut nothing = [0; 1];
-    let Growth::To(entries) = mine_survey(survey, threshold, limit, true, list, &mut nothing) else {
+    let Some(entries) = mine_survey(survey, threshold, limit, true, list, &mut nothing) else {
         return false;
     };
     list.len() == Entry::BYTES * entries
@@ -27,27 +25,22 @@ fn holds(survey: &[u8], threshold: usize, limit: usize, list: &[u8]) -> bool
 
 // Whether a list is the catalogue of a survey: all patterns of at most `limit` cables that drawings of at least `threshold` cranes
 // contain. The list's bytes are only compared.
-pub fn check_list(survey: &[u8], threshold: u32, limit: u32, list: &[u8]) -> ListChecked
+pub fn check_list(survey: &[u8], threshold: u32, limit: u32, list: &[u8]) -> Result<bool, Fault>
     ensures { CheckSays survey.now threshold limit list.now result }
 {
-    if let SurveyChecked::Refused(r, d) = check_given(survey, threshold, limit, list) {
-        return ListChecked::Refused(r, d);
-    }
-    if holds(survey, threshold as usize, limit as usize, list) {
-        return ListChecked::Yes;
-    }
-    ListChecked::No
+    check_given(survey, threshold, limit, list)?;
+    Ok(holds(survey, threshold as usize, limit as usize, list))
 }
 
 // The same of the usual catalogue: what drawings of at least two cranes contain, up to six cables.
-pub fn check_usual(survey: &[u8], list: &[u8]) -> ListChecked
+pub fn check_usual(survey: &[u8], list: &[u8]) -> Result<bool, Fault>
     ensures { CheckSays survey.now usual.threshold usual.limit list.now result }
 {
     check_list(survey, USUAL_THRESHOLD, USUAL_LIMIT, list)
 }
 
 // The same of the catalogue that was usual before, up to four cables.
-pub fn check_four(survey: &[u8], list: &[u8]) -> ListChecked
+pub fn check_four(survey: &[u8], list: &[u8]) -> Result<bool, Fault>
     ensures { CheckSays survey.now former.threshold former.limit list.now result }
 {
     check_list(survey, FORMER_THRESHOLD, FORMER_LIMIT, list)

@@ -1,8 +1,8 @@
 -- Writing the book: the refusals of its settings, and what the walk over all first records has written. Rests on SmallGrowth and WrittenLaws.
 -- Assumes nothing.
-use Rattle.std.specs.Prelude.{◌≡◌, true, false, List, [], ℕ, ◌≤◌, ◌<◌, leb, length, replicate}
-use Rattle.std.proofs.Common.{sym, ap, subst, arith, le-leb}
-use Rattle.std.proofs.lemmas.Bool.{lt-leb}
+use Rattle.std.specs.Prelude.{◌≡◌, true, false, List, [], ℕ, ◌≤◌, ◌<◌, leb, length, replicate, Option, Some, None, Result, Ok, Err}
+use Rattle.std.proofs.Common.{sym, ap, subst, arith}
+use borrow.Author.Tests.{le-leb, lt-leb}
 use Rattle.graphs.specs.Survey as surveys
 use Rattle.codes.specs.Code.{Rec, fresh, rows_refusal, decoded, kinds_before}
 use Rattle.codes.specs.CodeFronts.{no_records}
@@ -12,11 +12,9 @@ use Rattle.growth.specs.Family.{Listable}
 use Rattle.growth.specs.Growth.{Listed}
 use Rattle.growth.specs.ListingLaws.{lists_none}
 use Rattle.records.specs.declared.refusal.Refusal.TheVariants.{OutputLength, KindCount, BookLimit}
-use Rattle.records.specs.declared.catalogued.Catalogued.{Catalogued}
-use Rattle.records.specs.declared.catalogued.Catalogued.TheVariants.{Entries, Refused}
+use Rattle.records.specs.declared.refusal.Fault.{Fault}
+use Rattle.records.specs.Refusals.{lone_fault}
 use Rattle.records.specs.Catalogued.{catalogued_refusal}
-use Rattle.entries.specs.declared.output.Growth.{Growth}
-use Rattle.entries.specs.declared.output.Growth.TheVariants.{To, Stopped}
 use Rattle.entries.specs.ListOutcomes.{Outcome}
 use Rattle.entries.specs.Written.{ListWritten}
 use Rattle.entries.specs.WrittenLaws.{outcome_as, list_written, list_too_long, says_refused, says_list}
@@ -24,7 +22,7 @@ use Rattle.books.specs.Book.{Small, unsupported, one_to_three, book_refusal}
 use Rattle.books.specs.SmallRecords.{width}
 use Rattle.books.specs.SmallFamily.{small_closed, small_none, unsupported_kept}
 use Rattle.small_patterns.specs.declared.next.BookBounds.{BookBounds}
-use Rattle.small_patterns.specs.SmallWalk.{Asked, Few, SmallHeld, CanWalkSmall, SmallWalked}
+use Rattle.small_patterns.specs.SmallWalk.{Asked, SmallHeld, CanWalkSmall, SmallWalked}
 use Rattle.small_patterns.specs.SmallGrowth.{small_all}
 use Rattle.pattern_book.specs.BookSays.{BookSays}
 
@@ -38,7 +36,7 @@ unfolding one_to_three
 setting_rest n h = rw (le-leb 1 n h)
 
 -- THE WALK BEGINS without a record, with device 0
-module _ {g : BookBounds} (few : Few g) (some : 1 ≤ g.limit) {code : List ℕ} (long : length code ≡ 100) where
+module _ {g : BookBounds} {code : List ℕ} (long : length code ≡ 100) where
   held : SmallHeld g code 0 1
   held =
       record {
@@ -49,28 +47,28 @@ module _ {g : BookBounds} (few : Few g) (some : 1 ≤ g.limit) {code : List ℕ}
       }
 
   pub book_walks : (out : List ℕ) → CanWalkSmall g code 0 1 out 0
-  book_walks out = record { few = few; held = held; less = some; room = omega arith }
+  book_walks out = record { held = held; less = g.limit_some; room = omega arith }
 
   -- AND HAS WRITTEN all that goes on from there
-  module _ {out z now : List ℕ} {r : Growth} (w : SmallWalked g code 0 1 out 0 r now z) where
+  module _ {out z now : List ℕ} {r : Option ℕ} (w : SmallWalked g code 0 1 out 0 r now z) where
     pub book_grown : Outcome false unsupported (Listed kinds_before kinds_order (Listable kinds_before (Asked g)) g.limit []) [] out z r
     book_grown =
         outcome_as false unsupported
         (λ more t. subst (λ (γ : List Rec). Listed kinds_before kinds_order (Listable kinds_before (Asked g)) g.limit γ more) (no_records code)
-        (small_all few held more t)) [] out z r (w.told [] out (lists_none unsupported out))
+        (small_all held more t)) [] out z r (w.told [] out (lists_none unsupported out))
 
   -- THE BOOK, or 15
   pub book_written :
-      {out z now : List ℕ} {k : ℕ} → SmallWalked g code 0 1 out 0 (To k) now z → ListWritten (Asked g) unsupported g.limit out (Entries k) z
+      {out z now : List ℕ} {k : ℕ} → SmallWalked g code 0 1 out 0 (Some k) now z → ListWritten (Asked g) unsupported g.limit out (Ok k) z
   book_written {out} {z} {now} {k} w =
-      list_written (Asked g) unsupported g.limit (small_closed g.devices g.cables) unsupported_kept (omega (arith, few.limit)) out z k
+      list_written (Asked g) unsupported g.limit (small_closed g.devices g.cables) unsupported_kept (omega (arith, g.limit_few)) out z k
       (book_grown w) w.size
 
   pub book_too_long :
-      {out y now z : List ℕ} → SmallWalked g code 0 1 out 0 Stopped now y → z ≡ replicate (length y) 0
-      → ListWritten (Asked g) unsupported g.limit out (Refused OutputLength 0) z
+      {out y now z : List ℕ} → SmallWalked g code 0 1 out 0 None now y → z ≡ replicate (length y) 0
+      → ListWritten (Asked g) unsupported g.limit out (Err (lone_fault OutputLength)) z
   book_too_long {out} {y} {now} {z} w is =
-      list_too_long (Asked g) unsupported g.limit (small_closed g.devices g.cables) unsupported_kept (omega (arith, few.limit)) out y z
+      list_too_long (Asked g) unsupported g.limit (small_closed g.devices g.cables) unsupported_kept (omega (arith, g.limit_few)) out y z
       (book_grown w) w.size is
 
 -- THE OUTCOME OF THE CALL
@@ -83,30 +81,30 @@ module _ (a b l : ℕ) (o z : List ℕ) where
   unfolding book_refusal
   refusal_second e f = rw (e, f)
 
-  turned_back : (r : Catalogued) → 0 < book_refusal a b l → catalogued_refusal r ≡ surveys.refusal (book_refusal a b l) 0 → z ≡ o
+  turned_back : (r : Result ℕ Fault) → 0 < book_refusal a b l → catalogued_refusal r ≡ surveys.refusal (book_refusal a b l) 0 → z ≡ o
       → BookSays a b l r o z
   unfolding surveys.refusal
   turned_back r h e same = says_refused (surveys.refusal (book_refusal a b l) 0) (Small a b) unsupported l r o z h e same
 
-  says_kinds : book_refusal a b l ≡ 16 → z ≡ o → BookSays a b l (Refused KindCount 0) o z
-  says_kinds e = turned_back (Refused KindCount 0) (omega (arith, e)) (rw e)
+  says_kinds : book_refusal a b l ≡ 16 → z ≡ o → BookSays a b l (Err (lone_fault KindCount)) o z
+  says_kinds e = turned_back (Err (lone_fault KindCount)) (omega (arith, e)) (rw e)
 
   -- 16
-  pub says_first : one_to_three a ≡ false → z ≡ o → BookSays a b l (Refused KindCount 0) o z
+  pub says_first : one_to_three a ≡ false → z ≡ o → BookSays a b l (Err (lone_fault KindCount)) o z
   says_first e = says_kinds (refusal_first e)
 
-  pub says_second : one_to_three a ≡ true → one_to_three b ≡ false → z ≡ o → BookSays a b l (Refused KindCount 0) o z
+  pub says_second : one_to_three a ≡ true → one_to_three b ≡ false → z ≡ o → BookSays a b l (Err (lone_fault KindCount)) o z
   says_second e f = says_kinds (refusal_second e f)
 
   module _ (x : one_to_three a ≡ true) (y : one_to_three b ≡ true) where
     -- 17
-    pub says_book_limit : one_to_three l ≡ false → z ≡ o → BookSays a b l (Refused BookLimit 0) o z
+    pub says_book_limit : one_to_three l ≡ false → z ≡ o → BookSays a b l (Err (lone_fault BookLimit)) o z
     unfolding book_refusal
     says_book_limit e =
         let f : book_refusal a b l ≡ 17 = rw (x, y, e) in
-        turned_back (Refused BookLimit 0) (omega (arith, f)) (rw f)
+        turned_back (Err (lone_fault BookLimit)) (omega (arith, f)) (rw f)
 
     -- the book, or 15
-    pub says_book : (r : Catalogued) → one_to_three l ≡ true → ListWritten (Small a b) unsupported l o r z → BookSays a b l r o z
+    pub says_book : (r : Result ℕ Fault) → one_to_three l ≡ true → ListWritten (Small a b) unsupported l o r z → BookSays a b l r o z
     unfolding book_refusal surveys.refusal
     says_book r e w = says_list (surveys.refusal (book_refusal a b l) 0) (Small a b) unsupported l r o z (rw (x, y, e)) w

@@ -2,14 +2,12 @@
 ghost use Rattle.std.specs.Prelude.{◌≡◌, ◌≤◌};
 ghost use Rattle.books.specs.Book.{unsupported, one_to_three};
 ghost use Rattle.entries.specs.Written.{ListWritten};
-ghost use Rattle.small_patterns.specs.SmallWalk.{Few, Asked};
+ghost use Rattle.small_patterns.specs.SmallWalk.{Asked};
 ghost use Rattle.pattern_book.specs.BookSays.{BookSays};
 
-use entries::output::Growth;
 use records::bytes::clear;
-use records::catalogued::Catalogued;
 use records::code::Code;
-use records::refusal::Refusal;
+use records::refusal::{Fault, Refusal};
 use small_patterns::grow::walk_small;
 use small_patterns::next::BookBounds;
 
@@ -19,43 +17,38 @@ const LEAST: u32 = 1;
 const MOST: u32 = 3;
 
 // Whether a setting is within its bounds.
+#[tactic(auto, unfolding(books::specs::Book::one_to_three))]
 fn one_to_three(n: u32) -> bool
     ensures { result ≡ one_to_three n }
 {
-    if n < LEAST {
-        return false;
-    }
-    n <= MOST
+    (LEAST..=MOST).contains(&n)
 }
 
 // Writes the book of settings within their bounds. The code grows in one array.
-fn write_small(bounds: BookBounds, output: &mut [u8]) -> Catalogued
-    requires { Few bounds × (1 ≤ bounds.limit) }
+fn write_small(bounds: BookBounds, output: &mut [u8]) -> Result<usize, Fault>
     ensures { ListWritten (Asked bounds) unsupported bounds.limit output.old result output.new }
 {
     let mut code = [0; Code::BYTES];
     match walk_small(bounds, &mut code, 0, 1, output, 0) {
-        Growth::To(entries) => Catalogued::Entries(entries),
-        Growth::Stopped => {
+        Some(entries) => Ok(entries),
+        None => {
             clear(output);
-            Catalogued::Refused(Refusal::OutputLength, 0)
+            Err(Refusal::OutputLength.into())
         }
     }
 }
 
 // Writes the book: all patterns of at most `limit` cables, with device kinds below a and cable kinds below b.
-pub fn write_book(a: u32, b: u32, limit: u32, output: &mut [u8]) -> Catalogued
+pub fn write_book(a: u32, b: u32, limit: u32, output: &mut [u8]) -> Result<usize, Fault>
     ensures { BookSays a b limit result output.old output.new }
 {
-    if !one_to_three(a) {
-        return Catalogued::Refused(Refusal::KindCount, 0);
-    }
-    if !one_to_three(b) {
-        return Catalogued::Refused(Refusal::KindCount, 0);
+    if !one_to_three(a) || !one_to_three(b) {
+        return Err(Refusal::KindCount.into());
     }
     if !one_to_three(limit) {
-        return Catalogued::Refused(Refusal::BookLimit, 0);
+        return Err(Refusal::BookLimit.into());
     }
+    // Casts, since usize has no From<u32>.
     let bounds = BookBounds {
         devices: a as usize,
         cables: b as usize,

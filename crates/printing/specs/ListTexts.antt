@@ -1,12 +1,11 @@
 -- The text of the list of a family of patterns, of a catalogue as of the book, and what making it answers and leaves. Assumes nothing:
 -- these are definitions.
-use Rattle.std.specs.Prelude.{◌≡◌, Bool, true, false, List, ℕ, zero, suc, ◌+◌, ◌*◌, ◌/◌, ◌≤◌, ltb, length, take, drop}
+use Rattle.std.specs.Prelude.{◌≡◌, Bool, true, false, List, ℕ, Option, zero, suc, ◌+◌, ◌*◌, ◌/◌, ◌≤◌, ltb, length, take, drop}
 use Rattle.graphs.specs.Drawing.{Drawing}
 use Rattle.graphs.specs.Survey as surveys
 use Rattle.codes.specs.Code.{kinds_before}
 use Rattle.growth.specs.Sizes.{entry_size}
 use Rattle.growth.specs.Catalogue.{Figures, Entry, ListOf}
-use Rattle.printing.specs.declared.answer.Printed.{Printed}
 use Rattle.text_lines.specs.Texts.{longest_line, catalogue_text, refusal_text}
 use Rattle.printing.specs.Says.{Made}
 
@@ -31,7 +30,7 @@ pub record ListTextSays
     (Wanted : Drawing → Type 0)
     (figure : Drawing → Figures)
     (l room : ℕ)
-    (r : Printed)
+    (r : Option ℕ)
     (out out_now : List ℕ) : Type 0 where
   pub text : List ℕ
   pub is : ListText f Wanted figure l room text

@@ -1,5 +1,5 @@
 -- How many bytes a text has at most: those of the longest line for each entry, 40 for what else there may be. Assumes nothing.
-use Rattle.std.specs.Prelude.{Bool, true, false, ◌&&◌, cond, List, [], ◌∷◌, ◌++◌, map, leb, length, get_or, take, drop}
+use Rattle.std.specs.Prelude.{Bool, true, false, ◌&&◌, cond, List, [], ◌∷◌, ◌++◌, map, Result, Ok, Err, leb, length, get_or, take, drop}
 use Prim.Native.Nat.{ℕ, zero, suc, ◌+◌, ◌*◌, ◌/◌, ◌^◌, ◌≤◌, ◌<◌, min}
 use Rattle.std.proofs.Math.Nat.{mul-suc}
 use native.Mathlib.Omega.{arith}
@@ -12,8 +12,7 @@ use Rattle.codes.specs.Code.{rec_in, recs_in}
 use Rattle.growth.specs.Sizes.{example_at, entry_size}
 use Rattle.records.specs.declared.refusal.Refusal.{Refusal}
 use Rattle.records.specs.Refusals.{number_of, number_small}
-use Rattle.records.specs.declared.catalogued.Catalogued.{Catalogued}
-use Rattle.records.specs.declared.catalogued.Catalogued.TheVariants.{Entries, Refused}
+use Rattle.records.specs.declared.refusal.Fault.{Fault}
 use Rattle.text_lines.specs.Texts.{
   decimal,
   drawing_word,
@@ -118,12 +117,12 @@ refusal_size r d h =
     simp length-append (omega (arith, decimal_length (number_of r) 1 two_digits, drawing_size (number_of r) d h))
 
 -- AN ANSWER whose count and drawing are numbers of the machine's
-abbrev pub MachineNumbers : Catalogued → Type 0
-MachineNumbers (Entries n) = n < 10 ^ 20
-MachineNumbers (Refused r d) = d < 10 ^ 20
+abbrev pub MachineNumbers : Result ℕ Fault → Type 0
+MachineNumbers (Ok n) = n < 10 ^ 20
+MachineNumbers (Err f) = f.drawing < 10 ^ 20
 
 pub text_size :
-    (a : Catalogued) (bs : List ℕ) → MachineNumbers a → BytesIn bs
+    (a : Result ℕ Fault) (bs : List ℕ) → MachineNumbers a → BytesIn bs
     → length (text_of a bs) ≤ longest_line * (length bs / entry_size) + 40
-text_size (Entries n) bs g h = catalogue_size n bs g h
-text_size (Refused r d) bs g h = omega (arith, refusal_size r d g)
+text_size (Ok n) bs g h = catalogue_size n bs g h
+text_size (Err f) bs g h = omega (arith, refusal_size f.refusal f.drawing g)

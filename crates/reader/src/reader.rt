@@ -1,9 +1,9 @@
 // A survey that was opened; the work is in part.rt.
 ghost use Rattle.reader.specs.Readers.{Opens, Fetches};
 
-use crate::part::{check_fetch, drawing_part, readable_part};
+use crate::part::{drawing_part, readable_part};
 use checks::survey::check_length;
-use records::refusal::Checked;
+use records::refusal::Refusal;
 
 // The bytes of the survey, lent; none where opening was refused.
 #[derive(Clone, Copy)]
@@ -12,17 +12,11 @@ pub struct Reader<'a> {
 }
 
 // What opening gives: a reader, of no drawings where the length is refused.
+// Not a Result, by `Opens`: a survey that is refused still gives a reader, from which each fetch is refused.
 #[derive(Clone, Copy)]
 pub struct Opened<'a> {
     pub reader: Reader<'a>,
-    pub checked: Checked,
-}
-
-// What fetching gives: the bytes of the drawing, none where there is no such drawing.
-#[derive(Clone, Copy)]
-pub struct Fetched<'a> {
-    pub part: &'a [u8],
-    pub checked: Checked,
+    pub checked: Result<(), Refusal>,
 }
 
 impl<'a> Reader<'a> {
@@ -39,11 +33,9 @@ impl<'a> Reader<'a> {
     }
 
     // Fetches drawing d, as those very bytes of the survey.
-    pub fn fetch(self, d: usize) -> Fetched<'a>
+    pub fn fetch(self, d: usize) -> Result<&'a [u8], Refusal>
         ensures { Fetches self.entry d result }
     {
-        let part = drawing_part(self.bytes, d);
-        let checked = check_fetch(self.bytes, d);
-        Fetched { part, checked }
+        drawing_part(self.bytes, d).ok_or(Refusal::SurveyLength)
     }
 }

@@ -1,6 +1,7 @@
 -- The rightmost path as an array from device 0 on, searched from its end down. Rests on Descending. Assumes nothing.
-use Rattle.std.specs.Prelude.{◌≡◌, refl, true, false, List, ◌∷◌, ℕ, suc, ◌+◌, ◌≤◌, ◌<◌, length, get_or, set}
-use Rattle.std.proofs.Common.{ap₂, ◌∙◌, length-set, get_or-set_same, get_or-set_other, eq-eqb, ne_eqb}
+use Rattle.std.specs.Prelude.{◌≡◌, ◌≢◌, refl, Bool, true, false, List, ◌∷◌, ℕ, zero, suc, ◌+◌, ◌≤◌, ◌<◌, length, get_or, set, take}
+use Rattle.std.proofs.Common.{sym, get_or-take, length-take-le, ap₂, ◌∙◌, length-set, get_or-set_same, get_or-set_other, eq-eqb, ne_eqb, eqb, eqb-true}
+use Rattle.std.proofs.lemmas.Bool.{eqb-false}
 use native.Mathlib.Omega.{arith}
 use Rattle.laws.specs.Lists.{Mem}
 use Rattle.graphs.specs.Drawing.{member}
@@ -49,6 +50,44 @@ module _ (n : ℕ) (ps : List ℕ) (v : ℕ) where
   unfolding descending member
   sought_none left h s = let e : left ≡ 0 = omega arith in s.same_member ∙ rw e
 
+-- Nothing of it is v, or the last that is cuts it
+module _ (ps : List ℕ) (v : ℕ) where
+  missing : (n : ℕ) → ((k : ℕ) → k < n → get_or ps k 0 ≢ v) → member v (descending n ps) ≡ false
+  unfolding descending member
+  missing zero d = refl
+  missing (suc n) d = let m = missing n (λ k h. d k (omega arith)) in simp (ne_eqb _ _ (d n (omega arith))) m
+
+  cut_last :
+      (n q : ℕ) → q < n → get_or ps q 0 ≡ v → ((k : ℕ) → q < k → k < n → get_or ps k 0 ≢ v)
+      → cut_to v (descending n ps) ≡ descending (suc q) ps
+  unfolding descending cut_to
+  cut_last zero q h e d = absurd (omega arith)
+  cut_last (suc n) q h e d = go (eqb q n) refl (λ s. cut_last n q s e (λ k g l. d k g (omega arith)))
+    where
+      go :
+          (t : Bool) → eqb q n ≡ t → (q < n → cut_to v (descending n ps) ≡ descending (suc q) ps)
+          → cut_to v (descending (suc n) ps) ≡ descending (suc q) ps
+      go true z below = let s = eqb-true q n z in rw (← s) (simp (eq-eqb _ _ e))
+      go false z below =
+          let s : q < n = omega (arith, eqb-false q n z) in
+          simp (ne_eqb _ _ (d n s (omega arith))) (below s)
+
+-- of the first n devices the last that is v, or none is
+module _ (n : ℕ) (ps : List ℕ) (v : ℕ) (long : n ≤ length ps) where
+  wide : length (take n ps) ≡ n
+  wide = length-take-le n ps long
+
+  pub place_missing : ((k : ℕ) → k < length (take n ps) → get_or (take n ps) k 0 ≢ v) → member v (descending n ps) ≡ false
+  place_missing d = missing ps v n (λ k h e. d k (rw wide h) (get_or-take n ps k 0 h ∙ e))
+
+  pub place_last :
+      (q : ℕ) → q < n → get_or (take n ps) q 0 ≡ v → ((k : ℕ) → q < k → k < length (take n ps) → get_or (take n ps) k 0 ≢ v)
+      → PathCutPlace n ps v q
+  place_last q h e d =
+      let is = sym (get_or-take n ps q 0 h) ∙ e in
+      record { below = h; is = is; cut = cut_last ps v n q h is (λ k g l z. d k g (rw wide l) (get_or-take n ps k 0 l ∙ z)) }
+
+module _ (n : ℕ) (ps : List ℕ) (v : ℕ) where
   -- a device with a place is on the path
   pub place_member : (q : ℕ) → PathCutPlace n ps v q → member v (descending n ps) ≡ true
   place_member q p = mem_to_test v (descending n ps) (cut_within v (descending n ps) (rw p.cut top))

@@ -1,6 +1,6 @@
 -- A reading that the program holds: what is a permitted step, and the reading after it. Rests on the rows of codes.
 -- Assumes nothing.
-use Rattle.std.specs.Prelude.{◌≡◌, refl, Bool, false, ◌&&◌, ◌||◌, List, ◌⊎◌, ℕ, zero, suc, ◌-◌, ◌≤◌, ◌<◌, length, get_or, take}
+use Rattle.std.specs.Prelude.{◌≡◌, refl, Bool, false, ◌&&◌, ◌||◌, List, ◌⊎◌, ℕ, zero, suc, ◌-◌, ◌≤◌, ◌<◌, length, get_or, take, Option, Some, None, IfSome}
 use Rattle.std.proofs.Math.Path.{sym}
 use Rattle.std.proofs.Common.{ap, ◌∙◌, arith, length-take-le}
 use Rattle.std.proofs.Math.Bool.{true, not}
@@ -31,11 +31,10 @@ use Rattle.codes.specs.BranchState.{descending}
 use Rattle.records.specs.declared.code.Code.{Code}
 use Rattle.records.specs.Codes.{HoldsNothing}
 use Rattle.readings.specs.declared.reading.Reading as held
-use Rattle.readings.specs.declared.reading.Step.{Step}
-use Rattle.readings.specs.declared.reading.Step.TheVariants.{From, NotPermitted}
 use Rattle.readings.specs.Readings as readings
 use Rattle.readings.specs.Readings.{
   as_reading,
+  back_number,
   NotBegun,
   Begun,
   Sound,
@@ -48,7 +47,7 @@ use Rattle.codes.specs.Descending.{descending_end, descending_second}
 use Rattle.readings.specs.PathLaws.{falling_place, place_member}
 
 -- NO RECORD READ
-pub nothing_read : (c : Code) (ks : List ℕ) → HoldsNothing c → NotBegun (record { code = c; kinds = ks; devices = 0; back = 10 })
+pub nothing_read : (c : Code) (ks : List ℕ) → HoldsNothing c → NotBegun (record { code = c; kinds = ks; devices = 0; back = None })
 unfolding fresh recs_in rows descending
 nothing_read c ks h = record { is = rw (h.records_none, h.path_none); no_device = refl; no_record = h.records_none }
 
@@ -202,18 +201,18 @@ module _ (h : held.Reading) (b : Begun h) where
       pub parent_refused : e.j ≡ get_or path (n - 1 - 1) 0 → step_good x e ≡ false
       parent_refused p = backward_no (λ o. o.not_parent (p ∙ sym parent_is))
 
-      pub back_refused : (h.back ≡ 10 → ⊥) → e.j ≤ h.back → step_good x e ≡ false
-      back_refused d l = backward_no (λ o. go o.rising)
+      pub back_refused : (j : ℕ) → h.back ≡ Some j → e.j ≤ j → step_good x e ≡ false
+      back_refused j is l = backward_no (λ o. go (rw is at o.rising))
         where
-          go : (h.back ≡ 10) ⊎ (h.back < e.j) → ⊥
-          go (inl z) = d z
+          go : (j ≡ 10) ⊎ (j < e.j) → ⊥
+          go (inl z) = (rw is at b.back_device) z
           go (inr z) = omega arith
 
       pub apart_refused : member e.j x.path ≡ false → step_good x e ≡ false
       apart_refused m = backward_no (λ o. true_and_false (mem_to_test e.j x.path o.on_path) m)
 
     pub backward_step_from :
-        (q : ℕ) → e.i ≡ get_or path (n - 1) 0 → e.j < e.i → (e.j ≡ get_or path (n - 1 - 1) 0 → ⊥) → (h.back ≡ 10) ⊎ (h.back < e.j)
+        (q : ℕ) → e.i ≡ get_or path (n - 1) 0 → e.j < e.i → (e.j ≡ get_or path (n - 1 - 1) 0 → ⊥) → IfSome h.back (λ j. j < e.j)
         → PathCutPlace n path e.j q → StepFrom h e (n - 1)
     backward_step_from q p l d r m =
         record {
@@ -223,11 +222,15 @@ module _ (h : held.Reading) (b : Begun h) where
                 down = l;
                 on_path = mem_from_test e.j x.path (place_member n path e.j q m);
                 not_parent = λ z. d (z ∙ parent_is);
-                rising = r;
+                rising = rise h.back r;
               });
           first = λ z. absurd (omega (arith, devices_some h b, z));
           place = λ z g. absurd (omega arith);
         }
+      where
+        rise : (k : Option ℕ) → IfSome k (λ j. j < e.j) → (back_number k ≡ 10) ⊎ (back_number k < e.j)
+        rise None g = inl refl
+        rise (Some j) g = inr g
 
     -- forward
     module _ (wide : length h.kinds ≡ 10) (up : e.i < e.j) where
@@ -238,13 +241,20 @@ module _ (h : held.Reading) (b : Begun h) where
       ten_refused l = forward_refused x b.invariant e up (λ f. omega (arith, f.most))
 
       -- with the next device's number, the place of i decides
-      pub forward_told : e.j ≡ h.devices → e.j < 10 → (s : Step) → PlaceSays n path e.i s → StepSays h e s
+      pub forward_told : e.j ≡ h.devices → e.j < 10 → (s : Option ℕ) → PlaceSays n path e.i s → StepSays h e s
       unfolding PlaceSays StepSays
-      forward_told d l NotPermitted m = forward_refused x b.invariant e up (λ f. true_and_false f.on_path m)
-      forward_told d l (From q) p =
+      forward_told d l None m = forward_refused x b.invariant e up (λ f. true_and_false f.on_path m)
+      forward_told d l (Some q) p =
           record {
             good = forward_permitted x b.invariant e up
                 (record { is_next = d ∙ sym (devices_is h wide b); most = omega arith; on_path = place_member n path e.i q p });
             first = λ z. absurd (omega arith);
             place = λ z g. p;
           }
+
+-- what a step goes by: the first record, a backward one and a forward one
+pub ruleset first_tests = (sound_begun, first_permitted, first_refused)
+
+pub ruleset backward_tests = (path_most, end_refused, level_refused, parent_refused, back_refused, apart_refused, backward_step_from)
+
+pub ruleset forward_tests = (path_most, next_refused, ten_refused, forward_told)

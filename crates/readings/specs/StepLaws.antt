@@ -1,6 +1,6 @@
 -- A permitted step of a reading that the program holds: its kinds, and the reading after it. Rests on ReadingLaws.
 -- Assumes nothing.
-use Rattle.std.specs.Prelude.{◌≡◌, refl, true, false, ◌&&◌, ◌||◌, ℕ, zero, suc, ◌+◌, ◌≤◌, ◌<◌, ltb, eqb, length, get_or, take, set}
+use Rattle.std.specs.Prelude.{◌≡◌, refl, true, false, ◌&&◌, ◌||◌, ℕ, zero, suc, ◌+◌, ◌≤◌, ◌<◌, ltb, eqb, length, get_or, take, set, Some, None}
 use Rattle.std.proofs.Common.{sym, ◌∙◌, not-suc-le-zero, le_of_suc-le-suc, add-one, arith, length-set, get_or-take, take-suc-set, lt-ltb, le-ltb, eqb-true, eq-eqb, ne_eqb}
 use Rattle.std.proofs.Math.Path.{ap, ap₂}
 use mathlib.Core.List.{List, [], ◌∷◌, ◌++◌, map}
@@ -46,6 +46,7 @@ use Rattle.readings.specs.ReadingLaws.{
   devices_some,
   devices_is,
   sound_fresh,
+  sound_begun,
   not_fresh,
   step_device,
   Forward,
@@ -132,7 +133,7 @@ stepped_forward x v e up = rw (not_fresh x v e, lt-ltb e.i e.j up)
 -- BACKWARD: the path and the devices stay
 module _ (h : held.Reading) (e : Rec) (s : CanTake h e) (r : Code) (a : RecordHeld h.code e r) where
   abbrev pub with_back : held.Reading
-  with_back = record { code = r; kinds = h.kinds; devices = h.devices; back = e.j }
+  with_back = record { code = r; kinds = h.kinds; devices = h.devices; back = Some e.j }
 
   pub steps_back : e.j ≤ e.i → Steps h e with_back
   steps_back low = go s.sound
@@ -154,6 +155,7 @@ module _ (h : held.Reading) (e : Rec) (s : CanTake h e) (r : Code) (a : RecordHe
                   invariant = rw (is b) (stepped_invariant h e s);
                   devices_most = b.devices_most;
                   path_two = rw a.path_count b.path_two;
+                  back_device = λ z. omega (arith, step_device (as_reading h) b.invariant e s.good, b.invariant.ten);
                 };
             count = a.count;
           }
@@ -198,7 +200,7 @@ module _ (h : held.Reading) (wide : length h.kinds ≡ 10) (long : length h.code
           code = record { records = r.records; count = r.count; path = set (set r.path q e.i) (q + 1) e.j; path_count = q + 2 };
           kinds = set (set h.kinds e.i e.ki) e.j e.kj;
           devices = e.j + 1;
-          back = 10;
+          back = None;
         }
 
     path_room : q + 1 < length r.path
@@ -273,6 +275,7 @@ module _ (h : held.Reading) (wide : length h.kinds ≡ 10) (long : length h.code
                 invariant = rw is (stepped_invariant h e s);
                 devices_most = omega (arith, in_range.second);
                 path_two = omega arith;
+                back_device = tt;
               };
           count = a.count;
         }
@@ -283,3 +286,6 @@ module _ (h : held.Reading) (wide : length h.kinds ≡ 10) (long : length h.code
             go : Sound h → as_reading reading_grown ≡ stepped (as_reading h) e
             go (readings.not_begun n) = is_first n
             go (readings.begun b) = is_next b
+
+-- what the match of kinds goes by
+pub ruleset kinds_tests = (sound_begun, kinds_first, first_low, first_differs, forward_matches, backward_matches)

@@ -9,35 +9,21 @@ use records::code::Code;
 use records::drawing::Drawing;
 
 // What the records so far tell: the code under work, the kind that each device was first given, and the j of the record
-// before if that one was backward, else NO_BACK.
+// before if that one was backward. There is no heap, so the first `devices` of ten kinds count.
 #[derive(Clone, Copy)]
 pub struct Reading {
     pub code: Code,
     pub kinds: [u8; Drawing::MOST_DEVICES],
     pub devices: usize,
-    pub back: u8,
-}
-
-// What a record is read as: a permitted step from the device at a place of the rightmost path, counted from device 0.
-#[derive(Clone, Copy)]
-pub enum Step {
-    From(usize),
-    NotPermitted,
+    pub back: Option<u8>,
 }
 
 // Where a device stands among the first `count` of a path. The path is cut back to it, so the search goes from the end.
-fn place_on(path: &[u8; Drawing::MOST_DEVICES], count: usize, device: u8) -> Step
+fn place_on(path: &[u8; Drawing::MOST_DEVICES], count: usize, device: u8) -> Option<usize>
     requires { count ≤ 10 }
     ensures { PlaceSays count path.now device result }
 {
-    let mut left = count;
-    while 0 < left {
-        left = left - 1;
-        if path[left] == device {
-            return Step::From(left);
-        }
-    }
-    Step::NotPermitted
+    path[..count].iter().rposition(|&place| place == device)
 }
 
 // The code with a record more; its path stays.
@@ -52,9 +38,6 @@ pub fn with_record(mut code: Code, next: Record) -> Code
 }
 
 impl Reading {
-    // No device has this number.
-    pub const NO_BACK: u8 = 10;
-
     pub fn new() -> Self
         ensures { NotBegun result }
     {
@@ -62,56 +45,58 @@ impl Reading {
             code: Code::new(),
             kinds: [0; Drawing::MOST_DEVICES],
             devices: 0,
-            back: Reading::NO_BACK,
+            back: None,
         }
     }
 
     // Backward, (r, j): j on the path below its end r, but not the device before r, and above the j of the record
     // before if that one was backward.
-    fn backward_step(self, next: Record) -> Step
+    #[tactic(auto, using(crate::specs::ReadingLaws::backward_tests), unfolding(crate::specs::Readings::StepSays, crate::specs::Readings::PlaceSays))]
+    fn backward_step(self, next: Record) -> Option<usize>
         requires { Begun self × (next.j ≤ next.i) }
         ensures { StepSays self (as_rec next) result }
     {
         let code = self.code;
         let end = code.path_count - 1;
         if next.i != code.path[end] || next.i <= next.j {
-            return Step::NotPermitted;
+            return None;
         }
         if next.j == code.path[end - 1] {
-            return Step::NotPermitted;
+            return None;
         }
-        if self.back != Reading::NO_BACK && next.j <= self.back {
-            return Step::NotPermitted;
+        if self.back.is_some_and(|back| next.j <= back) {
+            return None;
         }
-        let Step::From(_) = place_on(&code.path, code.path_count, next.j) else {
-            return Step::NotPermitted;
-        };
-        Step::From(end)
+        place_on(&code.path, code.path_count, next.j)?;
+        Some(end)
     }
 
     // Forward, (i, r + 1): i on the path, and r + 1 the number of a device that may be.
-    fn forward_step(self, next: Record) -> Step
+    #[tactic(auto, using(crate::specs::ReadingLaws::forward_tests), unfolding(crate::specs::Readings::StepSays))]
+    fn forward_step(self, next: Record) -> Option<usize>
         requires { Begun self × (next.i < next.j) }
         ensures { StepSays self (as_rec next) result }
     {
-        let j = next.j as usize;
+        let j = usize::from(next.j);
         if j != self.devices || Drawing::MOST_DEVICES <= j {
-            return Step::NotPermitted;
+            return None;
         }
         let code = self.code;
         place_on(&code.path, code.path_count, next.i)
     }
 
-    // What the next record is read as. The first one is (0, 1), and device 0 is then to stand at place 0.
-    pub fn step(self, next: Record) -> Step
+    // The next record read as a permitted step: from the device at which place of the rightmost path, counted from device 0.
+    // The first record is (0, 1), and device 0 is then to stand at place 0.
+    #[tactic(auto, using(crate::specs::ReadingLaws::first_tests), unfolding(crate::specs::Readings::StepSays))]
+    pub fn step(self, next: Record) -> Option<usize>
         requires { Sound self }
         ensures { StepSays self (as_rec next) result }
     {
         if self.devices == 0 {
             if next.i == 0 && next.j == 1 {
-                return Step::From(0);
+                return Some(0);
             }
-            return Step::NotPermitted;
+            return None;
         }
         if next.i < next.j {
             return self.forward_step(next);
@@ -120,6 +105,7 @@ impl Reading {
     }
 
     // Whether a permitted step gives each device that was met before the kind that it has.
+    #[tactic(auto, using(crate::specs::StepLaws::kinds_tests))]
     pub fn kinds_match(self, next: Record) -> bool
         requires { Sound self × (step_good (as_reading self) (as_rec next) ≡ true) }
         ensures { result ≡ kinds_match (as_reading self) (as_rec next) }
@@ -127,14 +113,14 @@ impl Reading {
         if self.devices == 0 {
             return true;
         }
-        let i = next.i as usize;
+        let i = usize::from(next.i);
         if self.kinds[i] != next.ki {
             return false;
         }
         if next.i < next.j {
             return true;
         }
-        let j = next.j as usize;
+        let j = usize::from(next.j);
         self.kinds[j] == next.kj
     }
 
@@ -144,8 +130,8 @@ impl Reading {
         requires { CanTake self (as_rec next) × StepFrom self (as_rec next) place × (next.i < next.j) }
         ensures { Steps self (as_rec next) result }
     {
-        let i = next.i as usize;
-        let j = next.j as usize;
+        let i = usize::from(next.i);
+        let j = usize::from(next.j);
         let mut kinds = self.kinds;
         kinds[i] = next.ki;
         kinds[j] = next.kj;
@@ -158,7 +144,7 @@ impl Reading {
             code: longer,
             kinds,
             devices: j + 1,
-            back: Reading::NO_BACK,
+            back: None,
         }
     }
 
@@ -173,7 +159,7 @@ impl Reading {
             code: with_record(code, next),
             kinds,
             devices: self.devices,
-            back: next.j,
+            back: Some(next.j),
         }
     }
 

@@ -1,20 +1,18 @@
 -- What a check's answer tells, and the first refusal of several. Assumes nothing.
-use Rattle.std.specs.Prelude.{◌≡◌, refl, Bool, true, false, not, cond, ℕ, suc, ◌<◌, eqb}
+use Rattle.std.specs.Prelude.{◌≡◌, refl, Bool, true, false, not, cond, ℕ, suc, ◌<◌, eqb, Result, Ok, Err, ⊤}
 use Rattle.std.proofs.Common.{sym, ◌∙◌, ap, arith, eq-eqb, ne_eqb}
 use Rattle.records.specs.declared.refusal.Refusal.{Refusal}
-use Rattle.records.specs.declared.refusal.Checked.{Checked}
-use Rattle.records.specs.declared.refusal.Checked.TheVariants.{Accepted, Refused}
 use Rattle.records.specs.Refusals.{number_of, checked_number, number_positive, first_of}
 
 -- WHAT A CHECK'S ANSWER TELLS of the number that it stands for
-module _ {c : Checked} {n : ℕ} (told : checked_number c ≡ n) where
-  pub refused_number : {r : Refusal} → c ≡ Refused r → number_of r ≡ n
+module _ {c : Result ⊤ Refusal} {n : ℕ} (told : checked_number c ≡ n) where
+  pub refused_number : {r : Refusal} → c ≡ Err r → number_of r ≡ n
   refused_number e = ap checked_number (sym e) ∙ told
 
-  pub refused_positive : {r : Refusal} → c ≡ Refused r → 0 < n
+  pub refused_positive : {r : Refusal} → c ≡ Err r → 0 < n
   refused_positive {r} e = rw (refused_number e) at (number_positive r)
 
-  pub accepted_zero : c ≡ Accepted → n ≡ 0
+  pub accepted_zero : c ≡ Ok tt → n ≡ 0
   accepted_zero e = sym told ∙ ap checked_number e
 
 -- THE FIRST THAT APPLIES of two numbers

@@ -1,5 +1,5 @@
--- The paper's number of each refusal, and of a check's answer. Assumes nothing.
-use Rattle.std.specs.Prelude.{cond, ℕ, ◌≤◌, ◌<◌, eqb}
+-- The paper's number of each refusal, and of a check's answer: Ok, or the first reason to refuse. Assumes nothing.
+use Rattle.std.specs.Prelude.{cond, ℕ, ◌≤◌, ◌<◌, eqb, Result, Ok, Err, ⊤}
 use Rattle.std.proofs.Common.{lit<, lit≤}
 use Rattle.records.specs.declared.refusal.Refusal.{Refusal}
 use Rattle.records.specs.declared.refusal.Refusal.TheVariants.{
@@ -22,8 +22,7 @@ use Rattle.records.specs.declared.refusal.Refusal.TheVariants.{
   BookLimit,
   ListLength,
 }
-use Rattle.records.specs.declared.refusal.Checked.{Checked}
-use Rattle.records.specs.declared.refusal.Checked.TheVariants.{Accepted, Refused}
+use Rattle.records.specs.declared.refusal.Fault.{Fault}
 
 abbrev pub number_of : Refusal → ℕ
 number_of DrawingLength = 1
@@ -46,14 +45,18 @@ number_of BookLimit = 17
 number_of ListLength = 18
 
 -- 0 where there is nothing to refuse
-abbrev pub checked_number : Checked → ℕ
-checked_number Accepted = 0
-checked_number (Refused r) = number_of r
+abbrev pub checked_number : Result ⊤ Refusal → ℕ
+checked_number (Ok _) = 0
+checked_number (Err r) = number_of r
 
 -- the first that applies of two checks
-abbrev pub or_else : Checked → Checked → Checked
-or_else Accepted c = c
-or_else (Refused r) c = Refused r
+abbrev pub or_else : Result ⊤ Refusal → Result ⊤ Refusal → Result ⊤ Refusal
+or_else (Ok _) c = c
+or_else (Err r) c = Err r
+
+-- a reason with no drawing at fault
+abbrev pub lone_fault : Refusal → Fault
+lone_fault r = record { refusal = r; drawing = 0 }
 
 -- THE FIRST THAT APPLIES of two numbers, where 0 is none
 unfoldable pub first_of : ℕ → ℕ → ℕ

@@ -13,13 +13,6 @@ pub struct Cable {
     pub kind: usize,
 }
 
-// A byte as a number of devices or a kind.
-fn wide(x: u8) -> usize
-    ensures { result ≡ x }
-{
-    x as usize
-}
-
 impl Cable {
     // Cable c of a record that has room for it.
     fn within(drawing: &[u8], c: usize) -> Self
@@ -28,9 +21,9 @@ impl Cable {
     {
         let at = Drawing::CABLES_AT + Drawing::CABLE_BYTES * c;
         Cable {
-            a: wide(drawing[at]),
-            b: wide(drawing[at + 1]),
-            kind: wide(drawing[at + 2]),
+            a: usize::from(drawing[at]),
+            b: usize::from(drawing[at + 1]),
+            kind: usize::from(drawing[at + 2]),
         }
     }
 

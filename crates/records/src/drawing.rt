@@ -5,7 +5,7 @@ ghost use Rattle.records.specs.Refusals.{checked_number};
 ghost use Rattle.records.specs.Drawings.{counts_in, counts_refusal};
 
 use crate::bytes::byte_or_zero;
-use crate::refusal::{Checked, Refusal};
+use crate::refusal::Refusal;
 
 // The counts that a record gives: its devices, n, and its cables, m.
 #[derive(Clone, Copy)]
@@ -54,15 +54,15 @@ impl Drawing {
     }
 
     // The first reason to refuse the counts, the devices' before the cables'.
-    pub fn check_counts(self) -> Checked
+    pub fn check_counts(self) -> Result<(), Refusal>
         ensures { checked_number result ≡ counts_refusal self }
     {
         if self.devices < Drawing::LEAST_DEVICES || Drawing::MOST_DEVICES < self.devices {
-            return Checked::Refused(Refusal::DeviceCount);
+            return Err(Refusal::DeviceCount);
         }
         if !self.cables_fit() {
-            return Checked::Refused(Refusal::CableCount);
+            return Err(Refusal::CableCount);
         }
-        Checked::Accepted
+        Ok(())
     }
 }

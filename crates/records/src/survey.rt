@@ -3,20 +3,11 @@ ghost use Rattle.std.specs.Prelude.{◌≡◌};
 ghost use Rattle.graphs.specs.Survey.{drawing_count};
 
 use crate::drawing::Drawing;
-use crate::refusal::Refusal;
 
 // The number of whole drawings that a survey has.
 #[derive(Drop)]
 pub struct Survey {
     pub drawings: usize,
-}
-
-// What the check of a survey says: the number of its drawings, or the first reason to refuse it, with the drawing at
-// fault counted from 0, which is 0 where the survey's length is at fault.
-#[derive(Clone, Copy)]
-pub enum SurveyChecked {
-    Accepted(usize),
-    Refused(Refusal, usize),
 }
 
 impl Survey {

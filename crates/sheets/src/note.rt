@@ -32,12 +32,10 @@ fn later_sheets(survey: &[u8], d: usize) -> u32
     let crane = crane_of(survey, d);
     let drawings = Survey::counted(survey).drawings;
     let mut later: u32 = 0;
-    let mut e = d + 1;
-    while e < drawings {
+    for e in d + 1..drawings {
         if crane_of(survey, e) == crane {
-            later = later | 1 << e as u32;
+            later |= 1 << e as u32;
         }
-        e += 1;
     }
     later
 }
@@ -53,7 +51,7 @@ fn sheet_table(survey: &[u8]) -> [u32; CELLS]
         let later = later_sheets(survey, d);
         sheets[d] = later;
         if later != 0 {
-            repeated = repeated | 1 << d as u32;
+            repeated |= 1 << d as u32;
         }
     }
     sheets[REPEATED_AT] = repeated;

@@ -1,6 +1,6 @@
 -- Growing the codes of small patterns: what is listed when an entry does not fit, is as large as the limit, or the records that may come next were
 -- walked; and what is listed after each of these. An instance of ListingLaws. Rests on SmallNext and Books. Assumes nothing.
-use Rattle.std.specs.Prelude.{◌≡◌, refl, Bool, true, false, cond, List, ◌++◌, ℕ, ◌+◌, ◌*◌, ◌≤◌, ◌<◌, ltb, length}
+use Rattle.std.specs.Prelude.{◌≡◌, refl, Bool, true, false, cond, List, ◌++◌, ℕ, ◌+◌, ◌*◌, ◌≤◌, ◌<◌, ltb, length, Option, Some, None}
 use Rattle.std.proofs.Common.{sym, ap, ◌∙◌, subst, arith}
 use Rattle.laws.specs.Lists.{Mem, snoc}
 use Rattle.laws.specs.PutRecordLaws.{put_length}
@@ -29,8 +29,6 @@ use Rattle.growth.specs.ListingLaws.{
   walked_past,
   walked_stopped,
 }
-use Rattle.entries.specs.declared.output.Growth.{Growth}
-use Rattle.entries.specs.declared.output.Growth.TheVariants.{To, Stopped}
 use Rattle.entries.specs.ListOutcomes.{Outcome}
 use Rattle.entries.specs.WrittenLaws.{outcome_as}
 use Rattle.books.specs.Book.{unsupported}
@@ -42,7 +40,6 @@ use Rattle.books.specs.SmallNext.{next_numbered, width_next, width_some, width_m
 use Rattle.small_patterns.specs.declared.next.BookBounds.{BookBounds}
 use Rattle.small_patterns.specs.SmallWalk.{
   Asked,
-  Few,
   RecordTried,
   SmallHeld,
   CodeStays,
@@ -59,16 +56,16 @@ code_stays_same long = record { front = record { is = refl }; long = long }
 
 -- ALL THAT GOES ON from a code goes on by the records that are walked
 pub small_all :
-    {g : BookBounds} {code : List ℕ} {m n : ℕ} → Few g → SmallHeld g code m n → (more : List (List Rec))
+    {g : BookBounds} {code : List ℕ} {m n : ℕ} → SmallHeld g code m n → (more : List (List Rec))
     → ListedBy kinds_before kinds_order (Listable kinds_before (Asked g)) g.limit (recs_in m code) (numbered_below n (next_count n)) more
     → Listed kinds_before kinds_order (Listable kinds_before (Asked g)) g.limit (recs_in m code) more
-small_all {g} {code} {m} {n} few held more =
+small_all {g} {code} {m} {n} held more =
     listed_all kinds_before kinds_order (Listable kinds_before (Asked g)) g.limit (recs_in m code) (numbered_below n (next_count n)) more
     (λ e rest f. next e (listable_prefix kinds_before kinds_order (Asked g) (small_closed g.devices g.cables) (recs_in m code) e rest f))
   where
     next : (e : Rec) → Listable kinds_before (Asked g) (snoc (recs_in m code) e) → Mem e (numbered_below n (next_count n))
     next e f =
-        let w = next_numbered few.devices few.cables (recs_in m code) e f in
+        let w = next_numbered g.devices_few g.cables_few (recs_in m code) e f in
         subst (λ (k : ℕ). Mem e (numbered_below k (next_count k))) (sym held.wide)
         (subst (λ (x : Rec). Mem x (numbered_below (width (recs_in m code)) (next_count (width (recs_in m code))))) w.2
         (numbered_has (width (recs_in m code)) (next_count (width (recs_in m code))) w.0 w.1))
@@ -79,11 +76,11 @@ module _ {g : BookBounds} {code : List ℕ} {m n : ℕ} {out : List ℕ} {count 
   own_size = recs_in_length m code
 
   low : length (recs_in m code) ≤ 8
-  low = omega (arith, own_size, a.most, a.few.limit)
+  low = omega (arith, own_size, a.most, g.limit_few)
 
   -- NO ROOM
   pub small_full : {z : List ℕ} → EntryHanded false (entry_bytes (entry_for unsupported (recs_in m code))) count out false z
-      → SmallGrown g code m out count Stopped code z
+      → SmallGrown g code m out count None code z
   small_full {z} (short, is) =
       record {
         stays = code_stays_same a.held.long;
@@ -111,7 +108,7 @@ module _ {g : BookBounds} {code : List ℕ} {m n : ℕ} {out : List ℕ} {count 
     mid_room = omega (arith, small_mid_size, h.0)
 
     -- AS LARGE AS THE LIMIT
-    pub small_leaf : m ≡ g.limit → SmallGrown g code m out count (To (count + 1)) code mid
+    pub small_leaf : m ≡ g.limit → SmallGrown g code m out count (Some (count + 1)) code mid
     small_leaf e =
         record {
           stays = code_stays_same a.held.long;
@@ -125,9 +122,9 @@ module _ {g : BookBounds} {code : List ℕ} {m n : ℕ} {out : List ℕ} {count 
     -- SMALLER
     module _ (less : m ≡ g.limit → ⊥) where
       pub small_walks : CanWalkSmall g code m n mid (count + 1)
-      small_walks = record { few = a.few; held = a.held; less = omega (arith, a.most); room = mid_room }
+      small_walks = record { held = a.held; less = omega (arith, a.most); room = mid_room }
 
-      pub small_went : {now z : List ℕ} {r : Growth} → SmallWalked g code m n mid (count + 1) r now z → SmallGrown g code m out count r now z
+      pub small_went : {now z : List ℕ} {r : Option ℕ} → SmallWalked g code m n mid (count + 1) r now z → SmallGrown g code m out count r now z
       small_went {z = z} {r = r} w =
           record {
             stays = w.stays;
@@ -135,16 +132,16 @@ module _ {g : BookBounds} {code : List ℕ} {m n : ℕ} {out : List ℕ} {count 
             room = w.room;
             told = λ cs old t.
                 go cs old r
-                (outcome_as false unsupported (small_all a.few a.held) (snoc cs (recs_in m code)) old z r
+                (outcome_as false unsupported (small_all a.held) (snoc cs (recs_in m code)) old z r
                 (w.told (snoc cs (recs_in m code)) old (listed cs old t)));
           }
         where
-          go : (cs : List (List Rec)) (old : List ℕ) (r : Growth)
+          go : (cs : List (List Rec)) (old : List ℕ) (r : Option ℕ)
               → Outcome false unsupported (Listed kinds_before kinds_order (Listable kinds_before (Asked g)) g.limit (recs_in m code))
               (snoc cs (recs_in m code)) old z r
               → Outcome false unsupported (Gives kinds_before kinds_order (Asked g) g.limit (recs_in m code)) cs old z r
-          go cs old (To k) x = gives_listed (Asked g) unsupported g.limit a.listable (omega (arith, own_size, a.most)) x
-          go cs old Stopped x = gives_stopped_below (Asked g) unsupported g.limit a.listable (omega (arith, own_size, a.most)) x
+          go cs old (Some k) x = gives_listed (Asked g) unsupported g.limit a.listable (omega (arith, own_size, a.most)) x
+          go cs old None x = gives_stopped_below (Asked g) unsupported g.limit a.listable (omega (arith, own_size, a.most)) x
 
 -- WALKING
 module _ {g : BookBounds} {code : List ℕ} {m n : ℕ} {out : List ℕ} {count : ℕ} (a : CanWalkSmall g code m n out count) where
@@ -170,7 +167,7 @@ module _ {g : BookBounds} {code : List ℕ} {m n : ℕ} {out : List ℕ} {count 
 
   pub small_ends :
       {code₁ out₁ : List ℕ} {k written : ℕ} → next_count n ≤ k → SmallSoFar g code m n out count k code₁ out₁ written
-      → SmallWalked g code m n out count (To written) code₁ out₁
+      → SmallWalked g code m n out count (Some written) code₁ out₁
   small_ends {code₁} {out₁} {k} {written} e w =
       let z : k ≡ next_count n = omega (arith, w.low) in
       record {
@@ -183,7 +180,7 @@ module _ {g : BookBounds} {code : List ℕ} {m n : ℕ} {out : List ℕ} {count 
   -- ONE RECORD IS TRIED
   module _ {code₁ out₁ : List ℕ} {k written : ℕ} (w : SmallSoFar g code m n out count k code₁ out₁ written) (high : k < next_count n) where
     few_records : m ≤ 2
-    few_records = omega (arith, a.less, a.few.limit)
+    few_records = omega (arith, a.less, g.limit_few)
 
     pub so_far_same : recs_in m code₁ ≡ recs_in m code
     so_far_same = front_records_kept m (omega (arith, few_records, a.held.long)) (omega (arith, few_records, w.stays.long)) w.stays.front
@@ -240,7 +237,6 @@ module _ {g : BookBounds} {code : List ℕ} {m n : ℕ} {out : List ℕ} {count 
         pub small_grows : {wider : ℕ} → wider ≡ cond (ltb e.i e.j) (n + 1) n → CanGrowSmall g code₂ (m + 1) wider out₁ written
         small_grows {wider} wide =
             record {
-              few = a.few;
               held =
                   record {
                     long = tried_stays.long;
@@ -261,7 +257,7 @@ module _ {g : BookBounds} {code : List ℕ} {m n : ℕ} {out : List ℕ} {count 
         after_stays s = record { front = front_then tried_stays.front (front_shorter (omega arith) s.front); long = s.long }
 
         module _ {code₃ out₂ : List ℕ} where
-          outcome : {v : Growth} → SmallGrown g code₂ (m + 1) out₁ written v code₃ out₂ → (cs : List (List Rec)) (old : List ℕ)
+          outcome : {v : Option ℕ} → SmallGrown g code₂ (m + 1) out₁ written v code₃ out₂ → (cs : List (List Rec)) (old : List ℕ)
               → (x : ListsMore unsupported (By k) cs old out₁ written)
               → Outcome false unsupported (Gives kinds_before kinds_order (Asked g) g.limit (snoc (recs_in m code) (numbered n k)))
               (cs ++ x.more) old out₂ v
@@ -269,7 +265,7 @@ module _ {g : BookBounds} {code : List ℕ} {m n : ℕ} {out : List ℕ} {count 
               subst (λ (γ : List Rec). Outcome false unsupported (Gives kinds_before kinds_order (Asked g) g.limit γ) (cs ++ x.more) old out₂ v)
               grown_is (u.told (cs ++ x.more) old x.lists)
 
-          pub small_fills : SmallGrown g code₂ (m + 1) out₁ written Stopped code₃ out₂ → SmallWalked g code m n out count Stopped code₃ out₂
+          pub small_fills : SmallGrown g code₂ (m + 1) out₁ written None code₃ out₂ → SmallWalked g code m n out count None code₃ out₂
           small_fills u =
               record {
                 stays = after_stays u.stays;
@@ -290,7 +286,7 @@ module _ {g : BookBounds} {code : List ℕ} {m n : ℕ} {out : List ℕ} {count 
                   (walked_stopped (Asked g) unsupported g.limit (small_family g.devices g.cables) (recs_in m code) (numbered_below n k)
                   (numbered n k) earlier x (omega (arith, recs_in_length m code, a.less)) s.rest s.rise s.apart y)
 
-          pub small_next : {more : ℕ} → SmallGrown g code₂ (m + 1) out₁ written (To more) code₃ out₂
+          pub small_next : {more : ℕ} → SmallGrown g code₂ (m + 1) out₁ written (Some more) code₃ out₂
               → SmallSoFar g code m n out count (k + 1) code₃ out₂ more
           small_next {more} u =
               record {

@@ -1,33 +1,31 @@
 -- Growing the codes of small patterns in place: what is asked, and what is left. Assumes nothing: these are definitions.
-use Rattle.std.specs.Prelude.{◌≡◌, Bool, true, false, List, ℕ, ◌*◌, ◌≤◌, ◌<◌, length}
+use Rattle.std.specs.Prelude.{◌≡◌, Bool, false, List, ℕ, ◌*◌, ◌≤◌, ◌<◌, length, Option, Result, Ok, Err}
 use Rattle.laws.specs.Decides.{Decides}
 use Rattle.laws.specs.Lists.{snoc}
 use Rattle.graphs.specs.Drawing.{Drawing}
 use Rattle.codes.specs.Code.{Rec, fresh, recs_in, rows_refusal, decoded, kinds_before}
 use Rattle.codes.specs.CodeOrder.{kinds_order}
 use Rattle.codes.specs.RecordPut.{FrontKept, RecordPut}
+use Rattle.records.specs.declared.refusal.Refusal.{Refusal}
 use Rattle.code_checks.specs.declared.answer.Verdict.{Verdict}
-use Rattle.code_checks.specs.declared.answer.Verdict.TheVariants as verdict
 use Rattle.coding.specs.LeastSays.{LeastSays}
 use Rattle.growth.specs.Sizes.{entry_size}
 use Rattle.growth.specs.Family.{Listable}
 use Rattle.growth.specs.Growth.{ListedBy}
 use Rattle.growth.specs.Walking.{Gives}
 use Rattle.growth.specs.Listings.{Lists, ListsMore}
-use Rattle.entries.specs.declared.output.Growth.{Growth}
 use Rattle.entries.specs.ListOutcomes.{Outcome, RoomLeft}
 use Rattle.books.specs.Book.{Small, unsupported}
 use Rattle.books.specs.SmallRecords.{width, next_count, numbered_below}
 use Rattle.small_patterns.specs.declared.next.BookBounds.{BookBounds}
 
 -- WHAT THE LEAST TEST SAYS, as yes or not
-abbrev pub is_yes : Verdict → Bool
-is_yes (verdict.Yes k) = true
-is_yes (verdict.No k) = false
-is_yes (verdict.Refused x) = false
+abbrev pub is_yes : Result Verdict Refusal → Bool
+is_yes (Ok v) = v.least
+is_yes (Err x) = false
 
 pub record SaysLeast (bs : List ℕ) (r : Bool) : Type 0 where
-  pub verdict : Verdict
+  pub verdict : Result Verdict Refusal
   pub says : LeastSays bs verdict
   pub is : r ≡ is_yes verdict
 
@@ -44,12 +42,6 @@ pub record RecordTried (g : BookBounds) (code : List ℕ) (m : ℕ) (e : Rec) (r
   pub put : RecordPut code m e code_now
   pub decides : Asked g (decoded (recs_in m code)) → Decides r (Listable kinds_before (Asked g) (snoc (recs_in m code) e))
 
--- the bounds of the book
-pub record Few (g : BookBounds) : Type 0 where
-  pub devices : g.devices ≤ 3
-  pub cables : g.cables ≤ 3
-  pub limit : g.limit ≤ 3
-
 -- THE CODE IN PLACE: m records of a small pattern, of n devices
 pub record SmallHeld (g : BookBounds) (code : List ℕ) (m n : ℕ) : Type 0 where
   pub long : length code ≡ 100
@@ -63,14 +55,13 @@ pub record CodeStays (m : ℕ) (code code_now : List ℕ) : Type 0 where
   pub long : length code_now ≡ 100
 
 pub record CanGrowSmall (g : BookBounds) (code : List ℕ) (m n : ℕ) (out : List ℕ) (count : ℕ) : Type 0 where
-  pub few : Few g
   pub held : SmallHeld g code m n
   pub listable : Listable kinds_before (Asked g) (recs_in m code)
   pub most : m ≤ g.limit
   pub room : entry_size * count ≤ length out
 
 -- AFTER GROWING
-pub record SmallGrown (g : BookBounds) (code : List ℕ) (m : ℕ) (out : List ℕ) (count : ℕ) (r : Growth) (code_now out_now : List ℕ) : Type 0 where
+pub record SmallGrown (g : BookBounds) (code : List ℕ) (m : ℕ) (out : List ℕ) (count : ℕ) (r : Option ℕ) (code_now out_now : List ℕ) : Type 0 where
   pub stays : CodeStays m code code_now
   pub size : length out_now ≡ length out
   pub room : RoomLeft out_now r
@@ -79,13 +70,12 @@ pub record SmallGrown (g : BookBounds) (code : List ℕ) (m : ℕ) (out : List �
       → Outcome false unsupported (Gives kinds_before kinds_order (Asked g) g.limit (recs_in m code)) cs old out_now r
 
 pub record CanWalkSmall (g : BookBounds) (code : List ℕ) (m n : ℕ) (out : List ℕ) (count : ℕ) : Type 0 where
-  pub few : Few g
   pub held : SmallHeld g code m n
   pub less : m < g.limit
   pub room : entry_size * count ≤ length out
 
 -- AFTER WALKING all records that may come next
-pub record SmallWalked (g : BookBounds) (code : List ℕ) (m n : ℕ) (out : List ℕ) (count : ℕ) (r : Growth) (code_now out_now : List ℕ) : Type 0 where
+pub record SmallWalked (g : BookBounds) (code : List ℕ) (m n : ℕ) (out : List ℕ) (count : ℕ) (r : Option ℕ) (code_now out_now : List ℕ) : Type 0 where
   pub stays : CodeStays m code code_now
   pub size : length out_now ≡ length out
   pub room : RoomLeft out_now r

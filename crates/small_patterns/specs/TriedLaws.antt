@@ -1,5 +1,5 @@
 -- What the least test tells of a code with one record more: yes exactly if it is listed. Rests on SectionCodes and SmallFamily. Assumes nothing.
-use Rattle.std.specs.Prelude.{◌≡◌, Bool, ◌&&◌, List, [], ◌∷◌, ◌⊎◌, ℕ, ◌+◌, ◌*◌, ◌≤◌, eqb, length, get_or, take}
+use Rattle.std.specs.Prelude.{◌≡◌, Bool, ◌&&◌, List, [], ◌∷◌, ◌⊎◌, ℕ, ◌+◌, ◌*◌, ◌≤◌, eqb, length, get_or, take, Result, Ok, Err, ⊤}
 use Rattle.std.proofs.Math.Path.{refl}
 use Rattle.std.proofs.Common.{sym, ap, ◌∙◌, subst, inl, inr, arith, eqb-true}
 use Rattle.std.proofs.Math.Bool.{true, false}
@@ -17,19 +17,17 @@ use Rattle.codes.specs.Decoded.{decoded_pattern}
 use Rattle.codes.specs.SectionCode.{lone_row, lone_bytes, records_good, section_code_refusal, section_of, LeastSection}
 use Rattle.codes.specs.SectionCodes.{section_of_rows, least_pattern, pattern_least}
 use Rattle.codes.specs.SectionBytes.{accepted_section_code}
-use Rattle.records.specs.declared.refusal.Checked.{Checked}
-use Rattle.records.specs.declared.refusal.Checked.TheVariants as checked
+use Rattle.records.specs.declared.refusal.Refusal.{Refusal}
 use Rattle.code_checks.specs.declared.answer.Verdict.{Verdict}
-use Rattle.code_checks.specs.declared.answer.Verdict.TheVariants as verdict
 use Rattle.code_checks.specs.SectionChecks.{section_code_checked}
 use Rattle.code_checks.specs.SectionCheckLaws.{section_checked_accepted, section_accepted_checked}
-use Rattle.coding.specs.LeastSays.{LeastAnswer, LeastSays}
+use Rattle.coding.specs.LeastSays.{yes, no, LeastAnswer, LeastSays}
 use Rattle.coding.specs.LeastSaysLaws.{told_least}
 use Rattle.growth.specs.Family.{Listable}
 use Rattle.books.specs.SmallFamily.{SmallLabels, small_more, small_last}
 use Rattle.small_patterns.specs.declared.next.BookBounds.{BookBounds}
 use Rattle.laws.specs.Decides.{decides_false}
-use Rattle.small_patterns.specs.SmallWalk.{is_yes, SaysLeast, JoinsTwo, Asked, Few, RecordTried}
+use Rattle.small_patterns.specs.SmallWalk.{is_yes, SaysLeast, JoinsTwo, Asked, RecordTried}
 
 -- a record between two devices is no lone device's
 not_lone : (γ : List Rec) (e : Rec) → JoinsTwo e → lone_row (snoc γ e) ≡ false
@@ -44,11 +42,11 @@ not_lone (r ∷ []) e two = refl
 not_lone (r ∷ s ∷ rs) e two = refl
 
 -- small kinds are bytes
-small_bytes : (g : BookBounds) → Few g → (p : Drawing) → Asked g p → byte_list p.kinds ≡ true
-small_bytes g few p s =
-    byte_list_from p.kinds (λ i h. omega (arith, few.devices, s.device_kinds (get_or p.kinds i 256) (mem_at 256 p.kinds i h)))
+small_bytes : (g : BookBounds) → (p : Drawing) → Asked g p → byte_list p.kinds ≡ true
+small_bytes g p s =
+    byte_list_from p.kinds (λ i h. omega (arith, g.devices_few, s.device_kinds (get_or p.kinds i 256) (mem_at 256 p.kinds i h)))
 
-module _ {g : BookBounds} (few : Few g) {code now : List ℕ} {m : ℕ} {e : Rec} (long : length code ≡ 100) (low : m ≤ 7) (two : JoinsTwo e)
+module _ (g : BookBounds) {code now : List ℕ} {m : ℕ} {e : Rec} (long : length code ≡ 100) (low : m ≤ 7) (two : JoinsTwo e)
     (p : RecordPut code m e now) where
   room : 5 * (m + 1) ≤ length now
   room = omega (arith, p.long)
@@ -65,7 +63,7 @@ module _ {g : BookBounds} (few : Few g) {code now : List ℕ} {m : ℕ} {e : Rec
       both_false false = refl
 
   -- WHAT IS LISTED is accepted, and the least of the codes of its section
-  fine : Listable kinds_before (Asked g) (snoc (recs_in m code) e) → section_code_checked (take (5 * (m + 1)) now) ≡ checked.Accepted
+  fine : Listable kinds_before (Asked g) (snoc (recs_in m code) e) → section_code_checked (take (5 * (m + 1)) now) ≡ Ok tt
   fine f =
       section_accepted_checked (take (5 * (m + 1)) now)
       (cabled ∙ front_accepted now (m + 1) room (omega arith) (omega arith)
@@ -81,7 +79,7 @@ module _ {g : BookBounds} (few : Few g) {code now : List ℕ} {m : ℕ} {e : Rec
   good_rows z = (accepted_section_code (take (5 * (m + 1)) now) z).good
 
   -- YES: it is listed
-  if_yes : Asked g (decoded (recs_in m code)) → SmallLabels g.devices g.cables e → (v : Verdict) → LeastSays (take (5 * (m + 1)) now) v
+  if_yes : Asked g (decoded (recs_in m code)) → SmallLabels g.devices g.cables e → (v : Result Verdict Refusal) → LeastSays (take (5 * (m + 1)) now) v
       → is_yes v ≡ true → Listable kinds_before (Asked g) (snoc (recs_in m code) e)
   if_yes s l v says y = go (section_code_checked (take (5 * (m + 1)) now)) refl says
     where
@@ -100,36 +98,36 @@ module _ {g : BookBounds} (few : Few g) {code now : List ℕ} {m : ℕ} {e : Rec
           small = small_more g.devices g.cables (recs_in m code) e (good_from_test (snoc (recs_in m code) e) good).accepted s l
 
           pattern : Pattern (decoded (snoc (recs_in m code) e))
-          pattern = decoded_pattern (snoc (recs_in m code) e) good (small_bytes g few (decoded (snoc (recs_in m code) e)) small)
+          pattern = decoded_pattern (snoc (recs_in m code) e) good (small_bytes g (decoded (snoc (recs_in m code) e)) small)
 
           smallest : LeastSection (decoded (snoc (recs_in m code) e)) (snoc (recs_in m code) e)
           smallest = rw (records, section_of_rows (snoc (recs_in m code) e) good) at least
 
-      go : (c : Checked) → section_code_checked (take (5 * (m + 1)) now) ≡ c → LeastAnswer c (code_records (take (5 * (m + 1)) now)) v
+      go : (c : Result ⊤ Refusal) → section_code_checked (take (5 * (m + 1)) now) ≡ c → LeastAnswer c (code_records (take (5 * (m + 1)) now)) v
           → Listable kinds_before (Asked g) (snoc (recs_in m code) e)
-      go (checked.Refused x) q w = absurd (true_and_false y (ap is_yes w))
-      go checked.Accepted q w = told (told_least w (good_rows fine_code))
+      go (Err x) q w = absurd (true_and_false y (ap is_yes w))
+      go (Ok u) q w = told (told_least w (good_rows fine_code))
         where
           fine_code : section_code_refusal (take (5 * (m + 1)) now) ≡ 0
           fine_code = section_checked_accepted (take (5 * (m + 1)) now) q
 
           told : {n k : ℕ}
-              → ((v ≡ verdict.Yes n) × LeastSection (section_of (code_records (take (5 * (m + 1)) now))) (code_records (take (5 * (m + 1)) now)))
-              ⊎ ((v ≡ verdict.No k)
+              → ((v ≡ Ok (yes n)) × LeastSection (section_of (code_records (take (5 * (m + 1)) now))) (code_records (take (5 * (m + 1)) now)))
+              ⊎ ((v ≡ Ok (no k))
               × (LeastSection (section_of (code_records (take (5 * (m + 1)) now))) (code_records (take (5 * (m + 1)) now)) → ⊥))
               → Listable kinds_before (Asked g) (snoc (recs_in m code) e)
           told (inl x) = made fine_code x.1
           told (inr x) = absurd (true_and_false y (ap is_yes x.0))
 
   -- what is listed is answered yes
-  yes_if : Listable kinds_before (Asked g) (snoc (recs_in m code) e) → (v : Verdict) → LeastSays (take (5 * (m + 1)) now) v → is_yes v ≡ true
+  yes_if : Listable kinds_before (Asked g) (snoc (recs_in m code) e) → (v : Result Verdict Refusal) → LeastSays (take (5 * (m + 1)) now) v → is_yes v ≡ true
   yes_if f v says =
-      go (told_least (subst (λ (c : Checked). LeastAnswer c (code_records (take (5 * (m + 1)) now)) v) (fine f) says)
+      go (told_least (subst (λ (c : Result ⊤ Refusal). LeastAnswer c (code_records (take (5 * (m + 1)) now)) v) (fine f) says)
       (good_rows (section_checked_accepted (take (5 * (m + 1)) now) (fine f))))
     where
       go : {n k : ℕ}
-          → ((v ≡ verdict.Yes n) × LeastSection (section_of (code_records (take (5 * (m + 1)) now))) (code_records (take (5 * (m + 1)) now)))
-          ⊎ ((v ≡ verdict.No k)
+          → ((v ≡ Ok (yes n)) × LeastSection (section_of (code_records (take (5 * (m + 1)) now))) (code_records (take (5 * (m + 1)) now)))
+          ⊎ ((v ≡ Ok (no k))
           × (LeastSection (section_of (code_records (take (5 * (m + 1)) now))) (code_records (take (5 * (m + 1)) now)) → ⊥))
           → is_yes v ≡ true
       go (inl x) = ap is_yes x.0

@@ -9,12 +9,16 @@ ghost use Rattle.books.specs.SmallFamily.{SmallLabels};
 
 use code_records::record::Record;
 
-// What a list of small patterns is asked for: how many kinds devices and cables may have, and how many cables there may be.
+// What a list of small patterns is asked for: how many kinds devices and cables may have, and how many cables there may be. None is more than three.
 #[derive(Clone, Copy)]
 pub struct BookBounds {
     pub devices: usize,
     pub cables: usize,
     pub limit: usize,
+    ghost devices_few: { devices ≤ 3 },
+    ghost cables_few: { cables ≤ 3 },
+    ghost limit_some: { 1 ≤ limit },
+    ghost limit_few: { limit ≤ 3 },
 }
 
 // As many kinds as there may be, of two of them, and of three: the labels of a record.
@@ -64,20 +68,17 @@ pub fn widened(devices: usize, next: Record) -> usize
     ensures { result ≡ cond (ltb (as_rec next).i (as_rec next).j) (devices + 1) devices }
 {
     if next.i < next.j {
-        return devices + 1;
+        devices + 1
+    } else {
+        devices
     }
-    devices
 }
 
 // Whether the kinds of a record are within the bounds.
 pub fn within(bounds: BookBounds, next: Record) -> bool
     ensures { Decides result (SmallLabels bounds.devices bounds.cables (as_rec next)) }
 {
-    if bounds.devices <= next.ki as usize {
-        return false;
-    }
-    if bounds.cables <= next.c as usize {
-        return false;
-    }
-    (next.kj as usize) < bounds.devices
+    usize::from(next.ki) < bounds.devices
+        && usize::from(next.c) < bounds.cables
+        && usize::from(next.kj) < bounds.devices
 }

@@ -1,18 +1,19 @@
 // The calls that write a catalogue, with their answers as numbers.
 use mining::catalogue::{usual_catalogue, write_catalogue};
-use transcript::answer::{Answer, NO_CALL, catalogued};
-use transcript::call::{USUAL_CATALOGUE, WRITE_CATALOGUE};
+use records::refusal::Fault;
+use transcript::answer::Answer;
+use transcript::call::CatalogueCall;
 
 pub fn write_entries(
-    call: u32,
+    catalogue: CatalogueCall,
     survey: &[u8],
     threshold: u32,
     limit: u32,
     output: &mut [u8],
-) -> Answer {
-    match call {
-        WRITE_CATALOGUE => catalogued(write_catalogue(survey, threshold, limit, output)),
-        USUAL_CATALOGUE => catalogued(usual_catalogue(survey, output)),
-        _ => Answer(NO_CALL, 0, 0),
-    }
+) -> Result<Answer, Fault> {
+    let entries = match catalogue {
+        CatalogueCall::Asked => write_catalogue(survey, threshold, limit, output)?,
+        CatalogueCall::Usual => usual_catalogue(survey, output)?,
+    };
+    Ok(Answer::counted(entries))
 }

@@ -1,5 +1,4 @@
-// The calls of `mining`, asked for by number, and those of `reader`, for the program `vectors`. Its functions ask nothing of their
-// callers.
+// The calls of `mining` and those of `reader`, for the program `vectors`. Its functions ask nothing of their callers.
 #![tactic(auto)]
 
 pub mod catalogue; // catalogue.rt: the calls that write a catalogue

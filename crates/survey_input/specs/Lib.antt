@@ -1,4 +1,6 @@
 -- Definitions.
 pub mod ReadingInput
+pub mod ReadAnswers
 -- Laws over them.
 pub mod ReadingInputLaws
+pub mod ReadAnswerLaws

@@ -1,6 +1,6 @@
 -- Mining a survey, kind by kind of device 0: what it asks, and what stands on the page meanwhile and in the end. Assumes
 -- nothing: these are definitions.
-use Rattle.std.specs.Prelude.{◌≡◌, Bool, List, [], ℕ, ◌+◌, ◌*◌, ◌≤◌, length}
+use Rattle.std.specs.Prelude.{◌≡◌, Bool, List, [], ℕ, ◌+◌, ◌*◌, ◌≤◌, length, Option, Some, None}
 use Rattle.codes.specs.Code.{Rec, kinds_before}
 use Rattle.codes.specs.CodeOrder.{kinds_order}
 use Rattle.growth.specs.Catalogue.{figures_of}
@@ -9,8 +9,6 @@ use Rattle.growth.specs.Growth.{Listed, ListedBy}
 use Rattle.growth.specs.Frequent.{FrequentIn}
 use Rattle.growth.specs.Firsts.{Firsts}
 use Rattle.growth.specs.Sizes.{candidates_size, entry_size}
-use Rattle.entries.specs.declared.output.Growth.{Growth}
-use Rattle.entries.specs.declared.output.Growth.TheVariants.{To, Stopped}
 use Rattle.growing.specs.declared.grow.Settings.{Settings}
 use Rattle.walks.specs.LabelMarks.{drawings_of, cranes_of}
 use Rattle.walks.specs.Counts.{Blank}
@@ -19,7 +17,7 @@ use Rattle.growing.specs.GrowthOutcomes.{SetUp}
 use Rattle.entries.specs.ListOutcomes.{Outcome}
 
 -- ALL FREQUENT LEAST CODES are listed, or they cannot stand on the page
-abbrev pub SurveyListed : (survey : List ℕ) (s l : ℕ) (checking : Bool) (out : List ℕ) → Growth → (out_now : List ℕ) → Type 0
+abbrev pub SurveyListed : (survey : List ℕ) (s l : ℕ) (checking : Bool) (out : List ℕ) → Option ℕ → (out_now : List ℕ) → Type 0
 SurveyListed survey s l checking out r z =
     Outcome checking (figures_of survey) (Listed kinds_before kinds_order (FrequentIn kinds_before survey s) l []) [] out z r
 
@@ -28,7 +26,7 @@ pub record CanMine (survey labels rank alphabet : List ℕ) (g : Settings) : Typ
   pub set_up : SetUp survey labels rank alphabet g
   pub some : 1 ≤ g.limit
 
-abbrev pub Mined : (survey : List ℕ) (g : Settings) (out : List ℕ) → Growth → (out_now : List ℕ) → Type 0
+abbrev pub Mined : (survey : List ℕ) (g : Settings) (out : List ℕ) → Option ℕ → (out_now : List ℕ) → Type 0
 Mined survey g = SurveyListed survey g.threshold g.limit g.checking
 
 -- MEANWHILE: those whose device 0 has a kind below k
@@ -54,13 +52,13 @@ pub record CanMineKind
   pub sized : ListsSized kept ends
 
 -- what it comes to: those of kind k are done too, or the list cannot stand there
-abbrev pub AfterKind : (survey : List ℕ) (g : Settings) (out : List ℕ) (k : ℕ) (cells seen list out_now : List ℕ) → Growth → Type 0
-AfterKind survey g out k cells seen list out_now (To m) = KindsDone survey g out (k + 1) cells seen list out_now m
-AfterKind survey g out k cells seen list out_now Stopped = Mined survey g out Stopped out_now
+abbrev pub AfterKind : (survey : List ℕ) (g : Settings) (out : List ℕ) (k : ℕ) (cells seen list out_now : List ℕ) → Option ℕ → Type 0
+AfterKind survey g out k cells seen list out_now (Some m) = KindsDone survey g out (k + 1) cells seen list out_now m
+AfterKind survey g out k cells seen list out_now None = Mined survey g out None out_now
 
 -- and what it leaves, whatever stood on the page at first
 pub record KindMined
-    (survey : List ℕ) (g : Settings) (k : ℕ) (cells seen list out : List ℕ) (written : ℕ) (r : Growth)
+    (survey : List ℕ) (g : Settings) (k : ℕ) (cells seen list out : List ℕ) (written : ℕ) (r : Option ℕ)
     (cells_now seen_now list_now kept_now ends_now out_now : List ℕ) : Type 0 where
   pub after :
       (first : List ℕ) → KindsDone survey g first k cells seen list out written

@@ -1,5 +1,5 @@
 -- Mining a survey, kind by kind of device 0; its tables. Rests on Firsts and ListingLaws. Assumes nothing.
-use Rattle.std.specs.Prelude.{◌≡◌, refl, Bool, false, List, [], ◌∷◌, ◌++◌, map, ℕ, suc, ◌+◌, ◌≤◌, ◌<◌, length, get_or}
+use Rattle.std.specs.Prelude.{◌≡◌, refl, Bool, false, List, [], ◌∷◌, ◌++◌, map, ℕ, suc, ◌+◌, ◌≤◌, ◌<◌, length, get_or, Option, Some, None}
 use Rattle.std.proofs.Common.{sym, ap, ◌∙◌, subst, add-one, arith}
 use Rattle.graphs.specs.Drawing.{Drawing}
 use Rattle.codes.specs.Code.{Rec, fresh, rows_refusal, decoded, kinds_before}
@@ -15,8 +15,6 @@ use Rattle.growth.specs.ListedBy.{ChosenPlaces, ChosenCells, place_in, records_a
 use Rattle.growth.specs.Firsts.{Firsts, firsts_none, firsts_skip, firsts_apart, firsts_next, firsts_rest, firsts_listed}
 use Rattle.growth.specs.ListingLaws.{lists_none, stops_further}
 use Rattle.growth.specs.Sizes.{candidates_size}
-use Rattle.entries.specs.declared.output.Growth.{Growth}
-use Rattle.entries.specs.declared.output.Growth.TheVariants.{To, Stopped}
 use Rattle.growing.specs.declared.grow.Settings.{Settings}
 use Rattle.walks.specs.LabelMarks.{drawings_of, cranes_of}
 use Rattle.walks.specs.Counts.{Blank}
@@ -159,20 +157,20 @@ module _ {survey labels rank alphabet : List ℕ} {g : Settings} (a : CanMine su
           c.counting chosen) w.listed
 
       module _ {cells₄ seen₄ list₄ out₄ : List ℕ} where
-        went : {r : Growth} → CandidatesWalked survey alphabet g k γ cells₄ seen₄ list₃ 0 top list₄ out₁ written r out₄
+        went : {r : Option ℕ} → CandidatesWalked survey alphabet g k γ cells₄ seen₄ list₃ 0 top list₄ out₁ written r out₄
             → CandidatesWalked survey alphabet g k [] cells₄ seen₄ list₃ 0 top list₄ out₁ written r out₄
         went {r} = subst (λ (δ : List Rec). CandidatesWalked survey alphabet g k δ cells₄ seen₄ list₃ 0 top list₄ out₁ written r out₄) n
 
         -- stopped: those of later kinds would come behind
-        mine_stopped : CandidatesWalked survey alphabet g k γ cells₄ seen₄ list₃ 0 top list₄ out₁ written Stopped out₄
-            → Mined survey g out Stopped out₄
+        mine_stopped : CandidatesWalked survey alphabet g k γ cells₄ seen₄ list₃ 0 top list₄ out₁ written None out₄
+            → Mined survey g out None out₄
         mine_stopped v =
             let x = (went v).told w.codes out w.lists in
             let r = firsts_rest a.set_up.one firsts g.limit a.some (w.codes ++ x.more) (joined x.more x.which) in
             stops_further x ((w.codes ++ x.more) ++ r.0) r.0 refl r.1
 
         mine_next : {m : ℕ} → k < 256 → CandidatesWalked survey alphabet g k γ cells₄ seen₄ list₃ 0 top list₄ out₁ written
-            (To m) out₄
+            (Some m) out₄
             → KindsDone survey g out (k + 1) cells₄ seen₄ list₄ out₄ m
         mine_next {m} low v =
             let x = (went v).told w.codes out w.lists in
@@ -190,15 +188,15 @@ module _ {survey labels rank alphabet : List ℕ} {g : Settings} (a : CanMine su
             }
 
         -- either way
-        pub kind_after : (r : Growth) → k < 256 → CandidatesWalked survey alphabet g k γ cells₄ seen₄ list₃ 0 top list₄ out₁ written r out₄
+        pub kind_after : (r : Option ℕ) → k < 256 → CandidatesWalked survey alphabet g k γ cells₄ seen₄ list₃ 0 top list₄ out₁ written r out₄
             → AfterKind survey g out k cells₄ seen₄ list₄ out₄ r
-        kind_after (To m) low v = mine_next low v
-        kind_after Stopped low v = mine_stopped v
+        kind_after (Some m) low v = mine_next low v
+        kind_after None low v = mine_stopped v
 
   -- THE END: all kinds
   pub mine_ends : {out : List ℕ} {k : ℕ} {cells₁ seen₁ list₁ out₁ : List ℕ} {written : ℕ} → 256 ≤ k
       → KindsDone survey g out k cells₁ seen₁ list₁ out₁ written
-      → Mined survey g out (To written) out₁
+      → Mined survey g out (Some written) out₁
   mine_ends e w =
       record {
         more = w.codes;

@@ -8,7 +8,6 @@ ghost use Rattle.survey_patterns.specs.SurveyMined.{CanMine, Mined, CanMineKind,
 
 use candidates::choose::{CANDIDATES, choose};
 use embeddings::rows::KEPT;
-use entries::output::Growth;
 use first_records::firsts::count_firsts;
 use growing::grow::{Settings, walk};
 use label_ranks::kinds::{KINDS, kinds_of};
@@ -19,7 +18,7 @@ use records::code::Code;
 use surveys::labels::TABLES;
 
 // Lists an entry for every pattern whose device 0 has this kind, behind those that are listed. The code grows in place in two
-// arrays.
+// arrays. Answers how many entries stand in the list then, or none where the next one cannot.
 fn mine_kind(
     survey: &[u8],
     labels: &[u32; TABLES],
@@ -35,7 +34,7 @@ fn mine_kind(
     given: &[u8],
     output: &mut [u8],
     written: usize,
-) -> Growth
+) -> Option<usize>
     requires { CanMineKind survey.now labels.now rank.now alphabet.now settings kind
         cells.old seen.old list.old kept.old ends.old
         (page settings.checking given.now output.old) written }
@@ -67,7 +66,7 @@ pub fn mine(
     ends: &mut [usize; ENDS],
     given: &[u8],
     output: &mut [u8],
-) -> Growth
+) -> Option<usize>
     requires { CanMine survey.now labels.now rank.now alphabet.now settings
         × Blank cells.old seen.old × (length list.old ≡ candidates_size) × ListsSized kept.old ends.old }
     ensures { Mined survey.now settings (page settings.checking given.now output.old) result
@@ -77,14 +76,11 @@ pub fn mine(
     let occurs = kinds_of(survey);
     for kind in 0..KINDS {
         if occurs[kind] {
-            let Growth::To(count) = mine_kind(
+            written = mine_kind(
                 survey, labels, rank, alphabet, settings, kind as u8, cells, seen, list, kept,
                 ends, given, output, written,
-            ) else {
-                return Growth::Stopped;
-            };
-            written = count;
+            )?;
         }
     }
-    Growth::To(written)
+    Some(written)
 }

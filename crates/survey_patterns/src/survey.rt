@@ -7,7 +7,6 @@ ghost use Rattle.survey_patterns.specs.SurveyMined.{CanMine, Mined, SurveyListed
 use crate::mine::mine;
 use candidates::choose::CANDIDATES;
 use embeddings::rows::KEPT;
-use entries::output::Growth;
 use growing::grow::Settings;
 use label_ranks::ranks::{ALPHABET, LABELS, rank_labels};
 use listing::level::ENDS;
@@ -25,7 +24,7 @@ fn mine_prepared(
     settings: Settings,
     given: &[u8],
     output: &mut [u8],
-) -> Growth
+) -> Option<usize>
     requires { CanMine survey.now labels.now rank.now alphabet.now settings }
     ensures { Mined survey.now settings (page settings.checking given.now output.old) result
         (page settings.checking given.now output.new) }
@@ -42,7 +41,8 @@ fn mine_prepared(
 }
 
 // Lists all patterns of at most `limit` cables that drawings of at least `threshold` cranes contain: in the output or, where a list is
-// checked, as far as the list that is given has them.
+// checked, as far as the list that is given has them. Answers how many entries stand there, or none where the next one cannot: it does
+// not fit, or a list that is checked has another.
 pub fn mine_survey(
     survey: &[u8],
     threshold: usize,
@@ -50,7 +50,7 @@ pub fn mine_survey(
     checking: bool,
     given: &[u8],
     output: &mut [u8],
-) -> Growth
+) -> Option<usize>
     requires { AcceptedSettings survey.now threshold limit }
     ensures { SurveyListed survey.now threshold limit checking
         (page checking given.now output.old) result (page checking given.now output.new) }

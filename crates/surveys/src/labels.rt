@@ -25,9 +25,7 @@ pub fn put_table(table: &[u32; CELLS], d: usize, labels: &mut [u32; TABLES])
     ensures { labels.new ≡ put_record 100 d table.now labels.old }
 {
     let at = CELLS * d;
-    for i in 0..CELLS {
-        labels[at + i] = table[i];
-    }
+    labels[at..at + CELLS].copy_from_slice(table);
 }
 
 // Puts a drawing's table in its place, with its slots and where their groups end.
@@ -72,18 +70,10 @@ pub fn slot_in(labels: &[u32; TABLES], d: usize, u: usize, k: usize) -> u32
     labels[CELLS * (Survey::MOST_DRAWINGS + d) + (Drawing::MOST_DEVICES * u + k)]
 }
 
-// An entry as a number of slots.
-fn wide(x: u32) -> usize
-    ensures { result ≡ x }
-{
-    x as usize
-}
-
 // Where the group of slot k ends: the slots up to there have one label.
 pub fn group_end(labels: &[u32; TABLES], d: usize, u: usize, k: usize) -> usize
     requires { (d < 32) × (u < 10) × (k < 10) }
     ensures { result ≡ slot_at (drawing_ends labels.now d) u k }
 {
-    let at = CELLS * (2 * Survey::MOST_DRAWINGS + d) + (Drawing::MOST_DEVICES * u + k);
-    wide(labels[at])
+    labels[CELLS * (2 * Survey::MOST_DRAWINGS + d) + (Drawing::MOST_DEVICES * u + k)] as usize
 }

@@ -1,5 +1,6 @@
 -- Definitions.
 pub mod Tables
+pub mod RangeTests
 -- Laws over them.
 pub mod TableLaws
 pub mod CodeRows

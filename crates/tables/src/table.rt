@@ -22,7 +22,7 @@ const KINDS: u32 = 256;
 pub fn label_of(c: u8, kj: u8) -> u32
     ensures { (result ≡ label_of c kj) × (kj < 256) }
 {
-    1 + (KINDS * (c as u32) + kj as u32)
+    1 + KINDS * u32::from(c) + u32::from(kj)
 }
 
 // The label of the cable from device u to device v.
@@ -91,9 +91,9 @@ pub fn labels_of_code(code: &[u8]) -> [u32; CELLS]
     for k in 0..code.len() / Code::RECORD_BYTES {
         let r = Record::at(code, k);
         let cable = Cable {
-            a: r.i as usize,
-            b: r.j as usize,
-            kind: r.c as usize,
+            a: usize::from(r.i),
+            b: usize::from(r.j),
+            kind: usize::from(r.c),
         };
         put_cable(&mut table, cable, r.ki, r.kj);
     }

@@ -1,8 +1,8 @@
 // Exchangeable devices, twins: a table of labels stays as it is when the two are swapped. Of several without a number a search
 // follows one, since what is below one of them is below each.
-ghost use Rattle.std.specs.Prelude.{◌<◌, ◌≤◌};
+ghost use Rattle.std.specs.Prelude.{◌<◌, IfSome};
 ghost use Rattle.laws.specs.Decides.{Decides};
-ghost use Rattle.codes.specs.Twins.{Alike, Exchangeable, TwinNoted, TwinsNoted, CanTellTwin, TwinTold};
+ghost use Rattle.codes.specs.Twins.{Alike, Exchangeable, TwinsNoted, CanTellTwin, TwinTold};
 
 use crate::table::{CELLS, label};
 use records::drawing::Drawing;
@@ -12,16 +12,10 @@ fn alike(table: &[u32; CELLS], u: usize, v: usize, w: usize) -> bool
     requires { (u < 10) × (v < 10) × (w < 10) }
     ensures { Decides result (Alike table.now u v w) }
 {
-    if w == u {
+    if w == u || w == v {
         return true;
     }
-    if w == v {
-        return true;
-    }
-    if label(table, u, w) != label(table, v, w) {
-        return false;
-    }
-    label(table, w, u) == label(table, w, v)
+    label(table, u, w) == label(table, v, w) && label(table, w, u) == label(table, w, v)
 }
 
 // Whether two devices can be exchanged. The device `first` is asked before the others: one that joins v tells most pairs apart.
@@ -29,59 +23,38 @@ fn exchangeable(table: &[u32; CELLS], u: usize, v: usize, first: usize) -> bool
     requires { (u < 10) × (v < 10) × (first < 10) }
     ensures { Decides result (Exchangeable table.now u v) }
 {
-    if !alike(table, u, v, first) {
-        return false;
-    }
-    if label(table, u, v) != label(table, v, u) {
-        return false;
-    }
-    for w in 0..Drawing::MOST_DEVICES {
-        if !alike(table, u, v, w) {
-            return false;
-        }
-    }
-    true
+    alike(table, u, v, first)
+        && label(table, u, v) == label(table, v, u)
+        && (0..Drawing::MOST_DEVICES).all(|w| alike(table, u, v, w))
 }
 
-// The first device with a cable to v; ten if there is none.
-fn neighbour(table: &[u32; CELLS], v: usize) -> usize
+// The first device with a cable to v.
+fn neighbour(table: &[u32; CELLS], v: usize) -> Option<usize>
     requires { v < 10 }
-    ensures { result ≤ 10 }
+    ensures { IfSome result (λ w. w < 10) }
 {
-    for w in 0..Drawing::MOST_DEVICES {
-        if label(table, v, w) != 0 {
-            return w;
-        }
-    }
-    Drawing::MOST_DEVICES
+    (0..Drawing::MOST_DEVICES).find(|&w| label(table, v, w) != 0)
 }
 
-// The greatest device below v with which it can be exchanged; ten if there is none, or v has no cable and is never followed.
-fn twin_below(table: &[u32; CELLS], v: usize) -> u8
+// The greatest device below v with which it can be exchanged. Where v has no cable it is never followed, and none is looked for.
+fn twin_below(table: &[u32; CELLS], v: usize) -> Option<usize>
     requires { v < 10 }
-    ensures { TwinNoted table.now v result }
+    ensures { IfSome result (λ u. (u < v) × Exchangeable table.now u v) }
 {
-    let first = neighbour(table, v);
-    if first == Drawing::MOST_DEVICES {
-        return Drawing::MOST_DEVICES as u8;
-    }
-    let mut u = v;
-    while 0 < u {
-        u -= 1;
-        if exchangeable(table, u, v, first) {
-            return u as u8;
-        }
-    }
-    Drawing::MOST_DEVICES as u8
+    let first = neighbour(table, v)?;
+    (0..v).rev().find(|&u| exchangeable(table, u, v, first))
 }
 
-// The same for every device.
+// The same for every device; ten where there is none.
+// Ten and no Option: no heap, a search is lent the packed bytes.
 pub fn twins_of(table: &[u32; CELLS]) -> [u8; Drawing::MOST_DEVICES]
     ensures { TwinsNoted table.now result }
 {
     let mut twins = [Drawing::MOST_DEVICES as u8; Drawing::MOST_DEVICES];
     for v in 0..Drawing::MOST_DEVICES {
-        twins[v] = twin_below(table, v);
+        if let Some(u) = twin_below(table, v) {
+            twins[v] = u as u8;
+        }
     }
     twins
 }
@@ -95,12 +68,12 @@ pub fn has_free_twin(
     requires { CanTellTwin twins.now used.now w }
     ensures { TwinTold twins.now used.now w result }
 {
-    let mut u = twins[w] as usize;
+    let mut u = usize::from(twins[w]);
     while u < Drawing::MOST_DEVICES {
         if !used[u] {
             return true;
         }
-        u = twins[u] as usize;
+        u = usize::from(twins[u]);
     }
     false
 }

@@ -1,5 +1,5 @@
 -- Taking a candidate up: what it asks, and what becomes of it. `out` is the page on which entries stand. Assumes nothing: these are definitions.
-use Rattle.std.specs.Prelude.{◌≡◌, Bool, true, false, List, ℕ, ◌+◌, ◌*◌, ◌^◌, ◌≤◌, ◌<◌, eqb, length}
+use Rattle.std.specs.Prelude.{◌≡◌, Bool, cond, List, ℕ, ◌+◌, ◌*◌, ◌^◌, ◌≤◌, ◌<◌, eqb, length}
 use Rattle.laws.specs.PutRecords.{put_record}
 use Rattle.codes.specs.Code.{Rec, recs_in, decoded, Least}
 use Rattle.codes.specs.OwnNumbering.{WellGrown}
@@ -10,6 +10,8 @@ use Rattle.growth.specs.Page.{NotThere}
 use Rattle.least_seen.specs.Accepting.{AcceptedFront}
 use Rattle.taking.specs.declared.take.Taken.{Taken}
 use Rattle.taking.specs.declared.take.Taken.TheVariants.{Passed, Stopped, Listed}
+use Rattle.taking.specs.declared.take.TakenOn.{TakenOn}
+use Rattle.taking.specs.declared.take.TakenOn.TheVariants as answers
 
 -- A CANDIDATE IS TAKEN UP: an accepted code of at most 8 records that grew well, and room for the entries before its own
 pub record CanTakeCandidate (code : List ℕ) (m n cell : ℕ) (out : List ℕ) (count : ℕ) : Type 0 where
@@ -41,30 +43,16 @@ CandidateTaken checking γ cell count out Passed z = NotLeast γ out z
 CandidateTaken checking γ cell count out Stopped z = NoEntry checking γ cell count out z
 CandidateTaken checking γ cell count out Listed z = EntryPut γ cell count out z
 
--- THAT WAS ALL, unless its entry is listed and it is smaller than the limit
-abbrev pub over_of : (size limit : ℕ) → Taken → Bool
-over_of size limit Passed = true
-over_of size limit Stopped = true
-over_of size limit Listed = eqb size limit
+-- IT GOES ON if its entry is listed and it is smaller than the limit, and else that was all; with how many entries stand there then
+abbrev pub taken_on : (size limit count : ℕ) → Taken → TakenOn
+taken_on size limit count Passed = answers.Over count
+taken_on size limit count Stopped = answers.Stopped
+taken_on size limit count Listed = cond (eqb size limit) (answers.Over (count + 1)) (answers.On (count + 1))
 
-abbrev pub stopped_of : Taken → Bool
-stopped_of Passed = false
-stopped_of Stopped = true
-stopped_of Listed = false
-
--- how many entries stand there then
-abbrev pub count_of : (count : ℕ) → Taken → ℕ
-count_of count Passed = count
-count_of count Stopped = count
-count_of count Listed = count + 1
-
-pub record IsTakenOn
-    (checking : Bool) (γ : List Rec) (cell limit count : ℕ) (out : List ℕ) (over stopped : Bool) (more : ℕ) (out_now : List ℕ) : Type 0 where
+pub record IsTakenOn (checking : Bool) (γ : List Rec) (cell limit count : ℕ) (out : List ℕ) (r : TakenOn) (out_now : List ℕ) : Type 0 where
   pub taken : Taken
   pub told : CandidateTaken checking γ cell count out taken out_now
-  pub over_is : over ≡ over_of (length γ) limit taken
-  pub stopped_is : stopped ≡ stopped_of taken
-  pub count_is : more ≡ count_of count taken
+  pub is : r ≡ taken_on (length γ) limit count taken
 
 -- its entry is listed, and it is smaller
 pub record EntryGoesOn (γ : List Rec) (cell limit count : ℕ) (out : List ℕ) (more : ℕ) (out_now : List ℕ) : Type 0 where

@@ -10,19 +10,20 @@ use records::code::Code;
 use records::entry::Entry;
 
 // What becomes of a candidate: its code is not the least, its entry cannot stand behind the others, or it stands there.
-#[derive(Drop)]
+#[derive(Clone, Copy, Debug, PartialEq, Eq)]
 pub enum Taken {
     Passed,
     Stopped,
     Listed,
 }
 
-// A candidate after it was taken up: whether that was all, whether its entry ended the list, and how many entries stand in it.
-#[derive(Drop)]
-pub struct TakenOn {
-    pub over: bool,
-    pub stopped: bool,
-    pub count: usize,
+// A candidate after it was taken up: it goes on, or that was all, each with how many entries stand in the list; or its entry cannot stand
+// there.
+#[derive(Clone, Copy, Debug, PartialEq, Eq)]
+pub enum TakenOn {
+    On(usize),
+    Over(usize),
+    Stopped,
 }
 
 // Writes the entry of a candidate, of so many cables and devices, whose code is the least; or holds it against the list that is given.
@@ -67,24 +68,12 @@ pub fn take_on(
 ) -> TakenOn
     requires { CanTakeCandidate code.now cables devices cell (page checking given.now output.old) count }
     ensures { IsTakenOn checking (recs_in cables code.now) cell limit count
-        (page checking given.now output.old) result.over result.stopped result.count
-        (page checking given.now output.new) }
+        (page checking given.now output.old) result (page checking given.now output.new) }
 {
     match take_up(code, cables, devices, cell, checking, given, output, count) {
-        Taken::Passed => TakenOn {
-            over: true,
-            stopped: false,
-            count,
-        },
-        Taken::Stopped => TakenOn {
-            over: true,
-            stopped: true,
-            count,
-        },
-        Taken::Listed => TakenOn {
-            over: cables == limit,
-            stopped: false,
-            count: count + 1,
-        },
+        Taken::Passed => TakenOn::Over(count),
+        Taken::Stopped => TakenOn::Stopped,
+        Taken::Listed if cables == limit => TakenOn::Over(count + 1),
+        Taken::Listed => TakenOn::On(count + 1),
     }
 }

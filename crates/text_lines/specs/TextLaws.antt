@@ -1,7 +1,8 @@
 -- The text of a catalogue line by line and record by record, and entries read back from their bytes. Rests on records of any
 -- size. Assumes nothing.
 use Rattle.std.specs.Prelude.{◌≡◌, refl, length, get_or, take, drop}
-use Rattle.std.proofs.Common.{sym, ap, ap₂, ◌∙◌, add-one, arith, length-append, drop-drop, le-leb}
+use Rattle.std.proofs.Common.{sym, ap, ap₂, ◌∙◌, add-one, arith, length-append, drop-drop, take-suc, take-append-drop, le-leb}
+use Rattle.std.specs.Simd.{first_chunks}
 use mathlib.Core.List.{List, [], ◌∷◌, ◌++◌, map, append_assoc, append-nil}
 use Prim.Native.Nat.{ℕ, zero, suc, ◌+◌, ◌*◌, ◌-◌, ◌/◌, ◌≤◌, ◌<◌, min}
 use Rattle.std.proofs.lemmas.List.{length-map}
@@ -51,6 +52,42 @@ pub lines_more :
     (k : ℕ) (bs : List ℕ) → lines (first_entries k bs) ++ entry_text (entry_shown (row entry_size k bs))
     ≡ lines (first_entries (k + 1) bs)
 lines_more k bs = rw add-one (rows_text_more entry_size entry_shown entry_text k bs)
+
+-- THE TEXT OF SEVERAL, one behind the other, of what each row stands for
+module _ {A B : Type 0} (of_row : A → B) (text : B → List ℕ) where
+  abbrev texts : List A → List ℕ
+  texts xs = concat (map text (map of_row xs))
+
+  texts_append : (xs ys : List A) → texts (xs ++ ys) ≡ texts xs ++ texts ys
+  unfolding concat
+  texts_append [] ys = refl
+  texts_append (x ∷ xs) ys =
+      ap (λ (l : List ℕ). text (of_row x) ++ l) (texts_append xs ys) ∙ sym (append_assoc (text (of_row x)) (texts xs) (texts ys))
+
+  -- with the next one
+  pub texts_more :
+      (xs : List A) (i : ℕ) (d : A) → i < length xs → texts (take i xs) ++ text (of_row (get_or xs i d)) ≡ texts (take (i + 1) xs)
+  unfolding concat
+  texts_more xs i d h =
+      ap (λ (l : List ℕ). texts (take i xs) ++ l) (sym (append-nil (text (of_row (get_or xs i d)))))
+      ∙ sym (texts_append (take i xs) (get_or xs i d ∷ []))
+      ∙ ap texts (rw (add-one, take-suc xs i d h))
+
+  -- and all of them
+  pub texts_rest : (xs : List A) (i : ℕ) → texts (take i xs) ++ texts (drop i xs) ≡ texts xs
+  texts_rest xs i = sym (texts_append (take i xs) (drop i xs)) ∙ ap texts (take-append-drop i xs)
+
+-- AS ARRAYS: the first records of a list are the first of the arrays that it is cut into
+chunk_rows : (w n k : ℕ) (xs : List ℕ) → k ≤ n → take k (first_chunks w n xs) ≡ rows w k xs
+unfolding rows
+chunk_rows w n zero xs h = refl
+chunk_rows w zero (suc k) xs h = absurd (omega arith)
+chunk_rows w (suc n) (suc k) xs h = ap (λ (l : List (List ℕ)). take w xs ∷ l) (chunk_rows w n k (drop w xs) (omega arith))
+
+-- those of the list itself, and of a part of it that ends with it
+module _ {xs part : List ℕ} {cut : List (List ℕ)} (w k : ℕ) (same : part ≡ xs) (is : cut ≡ first_chunks w (length part / w) part) where
+  pub rows_cut : k ≤ length part / w → take k cut ≡ rows w k xs
+  rows_cut h = ap (take k) is ∙ chunk_rows w (length part / w) k part h ∙ ap (rows w k) same
 
 -- HOW MANY
 pub entries_count : (n : ℕ) (bs : List ℕ) → length (first_entries n bs) ≡ n

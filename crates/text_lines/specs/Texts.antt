@@ -1,6 +1,6 @@
 -- The text of a catalogue, or of the refusal of one, as bytes; and the entries that lent bytes hold. Assumes nothing: these
 -- are definitions.
-use Rattle.std.specs.Prelude.{◌&&◌, cond, List, [], ◌∷◌, ◌++◌, map, ℕ, zero, suc, ◌+◌, ◌/◌, ◌%◌, min, ltb, leb, length, get_or, drop}
+use Rattle.std.specs.Prelude.{◌&&◌, cond, List, [], ◌∷◌, ◌++◌, map, Result, Ok, Err, ℕ, zero, suc, ◌+◌, ◌/◌, ◌%◌, min, ltb, leb, length, get_or, drop}
 use Rattle.laws.specs.Lists.{concat}
 use Rattle.laws.specs.Rows.{rows}
 use Rattle.codes.specs.Code.{Rec, recs_in}
@@ -8,8 +8,7 @@ use Rattle.growth.specs.Sizes.{example_at, entry_size}
 use Rattle.growth.specs.Catalogue.{figures, Entry, entry}
 use Rattle.records.specs.Refusals.{number_of}
 use Rattle.records.specs.Catalogued.{catalogued_count}
-use Rattle.records.specs.declared.catalogued.Catalogued.{Catalogued}
-use Rattle.records.specs.declared.catalogued.Catalogued.TheVariants.{Entries, Refused}
+use Rattle.records.specs.declared.refusal.Fault.{Fault}
 
 -- NUMBERS in decimal: ASCII digits without leading zeros, of which n has at most n + 1
 unfoldable pub digits : (most n : ℕ) → List ℕ
@@ -66,9 +65,9 @@ unfoldable pub refusal_text : (number drawing : ℕ) → List ℕ
 refusal_text n d = refused_word ++ decimal n ++ drawing_text n d ++ line_end
 
 -- THE TEXT OF AN ANSWER
-abbrev pub answer_text : Catalogued → (entries : List Entry) → List ℕ
-answer_text (Entries n) es = catalogue_text es
-answer_text (Refused r d) es = refusal_text (number_of r) d
+abbrev pub answer_text : Result ℕ Fault → (entries : List Entry) → List ℕ
+answer_text (Ok n) es = catalogue_text es
+answer_text (Err f) es = refusal_text (number_of f.refusal) f.drawing
 
 -- ENTRIES SHOWN: what is printed of the bytes of an entry. They have no more than 8 records, so a count of cables above 8
 -- stands for 8: any bytes have a text. An entry of at most 8 cables is shown as it stands there (`shown_whole`)
@@ -83,5 +82,5 @@ abbrev pub entries_shown : (n : ℕ) → List ℕ → List Entry
 entries_shown n bs = first_entries (min n (length bs / entry_size)) bs
 
 -- the text of an answer whose entries stand in these bytes
-abbrev pub text_of : Catalogued → (bytes : List ℕ) → List ℕ
+abbrev pub text_of : Result ℕ Fault → (bytes : List ℕ) → List ℕ
 text_of a bs = answer_text a (entries_shown (catalogued_count a) bs)

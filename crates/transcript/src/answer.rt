@@ -1,52 +1,63 @@
-// What a call answered, as numbers: a refusal's is the paper's.
-use records::catalogued::Catalogued;
-use records::list_checked::ListChecked;
-use records::refusal::{Checked, Refusal, number};
-use records::survey::SurveyChecked;
+// What a call answered, as three numbers: a refusal's is the paper's.
+ghost use Rattle.std.specs.Prelude.{◌≡◌};
+ghost use Rattle.transcript.specs.CallAnswers.{fault_answer, CheckAnswers};
+
+use records::refusal::{Fault, Refusal};
 
 // The refusal, 0 for none; the drawing or the code record at fault, or the record on which two codes part; the count.
-#[derive(Drop)]
-pub struct Answer(pub u32, pub usize, pub usize);
+#[derive(Clone, Copy)]
+pub struct Answer {
+    pub refusal: u32,
+    pub at: usize,
+    pub count: usize,
+}
 
-// No refusal has this number: the list asks for a call that there is not.
-pub const NO_CALL: u32 = 99;
+impl Answer {
+    // What a check answers that refuses nothing.
+    pub const ACCEPTED: Answer = Answer {
+        refusal: 0,
+        at: 0,
+        count: 0,
+    };
+
+    // No refusal has this number: the list asks for a call that there is not.
+    pub const NO_CALL: Answer = Answer {
+        refusal: 99,
+        ..Answer::ACCEPTED
+    };
+
+    // How many there are.
+    pub fn counted(count: usize) -> Self
+        ensures { result ≡ record { refusal = 0; at = 0; count = count } }
+    {
+        Answer {
+            count,
+            ..Answer::ACCEPTED
+        }
+    }
+}
 
 // A refusal, with the code record at fault or else with the drawing.
-pub fn refused(reason: Refusal, drawing: usize) -> Answer {
-    let at = match reason {
-        Refusal::Step(record) => record,
-        Refusal::Kind(record) => record,
-        _ => drawing,
-    };
-    Answer(number(reason), at, 0)
-}
+impl From<Fault> for Answer {
+    ghost from_gives = { λ f a. a ≡ fault_answer f };
 
-pub fn checked(answer: Checked) -> Answer {
-    match answer {
-        Checked::Accepted => Answer(0, 0, 0),
-        Checked::Refused(reason) => refused(reason, 0),
+    fn from(fault: Fault) -> Self {
+        let at = match fault.refusal {
+            Refusal::Step(record) | Refusal::Kind(record) => record,
+            _ => fault.drawing,
+        };
+        Answer {
+            refusal: fault.refusal.number(),
+            at,
+            count: 0,
+        }
     }
 }
 
-pub fn surveyed(answer: SurveyChecked) -> Answer {
-    match answer {
-        SurveyChecked::Accepted(n) => Answer(0, 0, n),
-        SurveyChecked::Refused(reason, drawing) => refused(reason, drawing),
-    }
-}
-
-pub fn catalogued(answer: Catalogued) -> Answer {
-    match answer {
-        Catalogued::Entries(n) => Answer(0, 0, n),
-        Catalogued::Refused(reason, drawing) => refused(reason, drawing),
-    }
-}
-
-// Yes is 1, as the C interface has it.
-pub fn list_checked(answer: ListChecked) -> Answer {
-    match answer {
-        ListChecked::No => Answer(0, 0, 0),
-        ListChecked::Yes => Answer(0, 0, 1),
-        ListChecked::Refused(reason, drawing) => refused(reason, drawing),
-    }
+// What a check answers.
+pub fn checked(answer: Result<(), Refusal>) -> Result<Answer, Fault>
+    ensures { CheckAnswers answer result }
+{
+    answer?;
+    Ok(Answer::ACCEPTED)
 }

@@ -1,37 +1,79 @@
-// The numbers by which a list asks for calls.
+// The calls that a list asks for, each by its number. They stand together by what a call is passed.
+ghost use Rattle.transcript.specs.Calls.{Asks};
 
-// The calls that are lent no output.
-pub const CHECK_DRAWING: u32 = 1;
+// The calls over drawings and codes that are lent no output.
+#[derive(Clone, Copy)]
+pub enum Question {
+    CheckDrawing,
+    CheckSurvey,
+    CheckCode,
+    IsLeast,
+    Compare,
+    Same,
+}
 
-pub const CHECK_SURVEY: u32 = 2;
+// The calls over drawings and codes that are lent output.
+#[derive(Clone, Copy)]
+pub enum Writing {
+    CodeDrawing,
+    Decode,
+    MatchDrawing,
+}
 
-pub const CHECK_CODE: u32 = 3;
+// The calls that write a catalogue: with the settings that are asked for, or with the usual ones.
+#[derive(Clone, Copy)]
+pub enum CatalogueCall {
+    Asked,
+    Usual,
+}
 
-pub const IS_LEAST: u32 = 4;
+// The calls that check a list against a catalogue, of the settings that are asked for, the usual ones, or those of four drawings.
+#[derive(Clone, Copy)]
+pub enum ListCheck {
+    Asked,
+    Usual,
+    Four,
+}
 
-pub const COMPARE: u32 = 5;
+// A call of the library; Fetch is the reader's, which opens a survey once and then fetches from it.
+#[derive(Clone, Copy)]
+pub enum Call {
+    Question(Question),
+    Fetch,
+    Writing(Writing),
+    Catalogue(CatalogueCall),
+    Book,
+    ListCheck(ListCheck),
+}
 
-pub const SAME: u32 = 6;
+// The number of a call that there is not.
+#[derive(Clone, Copy)]
+pub struct NoSuchCall;
 
-// The reader: a survey is opened once, and then fetched from.
-pub const FETCH: u32 = 7;
+impl TryFrom<u32> for Call {
+    type Error = NoSuchCall;
 
-// The calls that are lent output; those that write a list come last.
-pub const CODE_DRAWING: u32 = 8;
+    ghost try_from_gives = { Asks };
 
-pub const DECODE: u32 = 9;
-
-pub const MATCH_DRAWING: u32 = 10;
-
-pub const WRITE_CATALOGUE: u32 = 11;
-
-pub const USUAL_CATALOGUE: u32 = 12;
-
-pub const BOOK: u32 = 13;
-
-// The calls that check a list, and are lent no output either.
-pub const CHECK_LIST: u32 = 14;
-
-pub const CHECK_USUAL: u32 = 15;
-
-pub const CHECK_FOUR: u32 = 16;
+    fn try_from(number: u32) -> Result<Self, NoSuchCall> {
+        match number {
+            1 => Ok(Call::Question(Question::CheckDrawing)),
+            2 => Ok(Call::Question(Question::CheckSurvey)),
+            3 => Ok(Call::Question(Question::CheckCode)),
+            4 => Ok(Call::Question(Question::IsLeast)),
+            5 => Ok(Call::Question(Question::Compare)),
+            6 => Ok(Call::Question(Question::Same)),
+            7 => Ok(Call::Fetch),
+            8 => Ok(Call::Writing(Writing::CodeDrawing)),
+            9 => Ok(Call::Writing(Writing::Decode)),
+            10 => Ok(Call::Writing(Writing::MatchDrawing)),
+            11 => Ok(Call::Catalogue(CatalogueCall::Asked)),
+            12 => Ok(Call::Catalogue(CatalogueCall::Usual)),
+            13 => Ok(Call::Book),
+            14 => Ok(Call::ListCheck(ListCheck::Asked)),
+            15 => Ok(Call::ListCheck(ListCheck::Usual)),
+            16 => Ok(Call::ListCheck(ListCheck::Four)),
+            _ => Err(NoSuchCall),
+        }
+    }
+}

@@ -2,7 +2,7 @@
 // their callers.
 #![tactic(auto)]
 
-pub mod call; // call.rt: the number of each call
+pub mod call; // call.rt: the calls, by their numbers
 pub mod bytes; // bytes.rt: bytes and numbers at a place
 pub mod part; // part.rt: the parts of a list
 pub mod answer; // answer.rt: what a call answered, as three numbers

@@ -1,18 +1,11 @@
 // The parts of a list. A part is its length and that many bytes; a length is a number of two bytes, the low one first.
-use crate::bytes::two_bytes;
+ghost use Rattle.std.specs.Prelude.{◌≡◌, ◌+◌, length};
+ghost use Rattle.std.specs.Option.{IfSome};
 
-// The place after the part at a place; no list comes near the wrap.
-pub fn part_after(list: &[u8], at: usize) -> usize {
-    let start = std::num::wrapping_add_usize(at, 2);
-    std::num::wrapping_add_usize(start, two_bytes(list, at) as usize)
-}
-
-// The bytes of the part at a place; none where they are not all there.
-pub fn part_at<'a>(list: &'a [u8], at: usize) -> &'a [u8] {
-    let start = std::num::wrapping_add_usize(at, 2);
-    let end = part_after(list, at);
-    if start <= end && end <= list.len() {
-        return &list[start..end];
-    }
-    &list[0..0]
+// The part in front and what follows it, or none where no whole part is.
+pub fn split_part(list: &[u8]) -> Option<(&[u8], &[u8])>
+    ensures { IfSome result (λ p. length list.now ≡ 2 + length p.0.now + length p.1.now) }
+{
+    let (length, rest) = list.split_first_chunk::<2>()?;
+    rest.split_at_checked(usize::from(u16::from_le_bytes(*length)))
 }

@@ -9,10 +9,8 @@ use crate::list::run_all;
 // The list has three pages, and all but the last are full.
 fn main() {
     let mut page = io::large_buffer();
-    let n = io::read_full(0, &mut page);
-    run_all(&page[..n]);
-    let m = io::read_full(0, &mut page);
-    run_all(&page[..m]);
-    let k = io::read_full(0, &mut page);
-    run_all(&page[..k]);
+    for _ in 0..3 {
+        let n = io::read_full(0, &mut page);
+        run_all(&page[..n]);
+    }
 }

@@ -1,15 +1,16 @@
 -- `answers::catalogued_number` meets its contract, case by case. Assumes nothing.
+use Rattle.std.proofs.Common.{rules}
 use Rattle.graphs.specs.Survey as surveys
 use Rattle.answer_numbers.proofs.answers.catalogued_number.Goals as goal
 
 pub refused-requires : goal.refused-requires
 unfolding surveys.refusal
-refused-requires c = rw c.in-Refused.is at c.requires
+refused-requires c = rw c.in-Err.is at c.requires
 
-pub returns-in-Entries : goal.returns-in-Entries
+pub returns-in-Ok : goal.returns-in-Ok
 unfolding surveys.refusal
-returns-in-Entries c = rw c.in-Entries.is c.counted.ensures
+returns-in-Ok c = rw c.in-Ok.is (search rules)
 
-pub returns-in-Refused : goal.returns-in-Refused
+pub returns-in-Err : goal.returns-in-Err
 unfolding surveys.refusal
-returns-in-Refused c = rw c.in-Refused.is c.refused.ensures
+returns-in-Err c = rw c.in-Err.is c.refused.ensures

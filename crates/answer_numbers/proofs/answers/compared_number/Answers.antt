@@ -1,24 +1,23 @@
--- `answers::compared_number` meets its contract, case by case. Assumes nothing.
-use native.Mathlib.Omega.{arith}
+-- `answers::compared_number` meets its contract: what is counted is the order beside the agreement. Assumes nothing.
+use Rattle.std.proofs.Common.{◌≡◌, ◌+◌, ◌*◌, ℕ, Result, Ok, Err, refl, ap, ◌∙◌, rules}
+use Rattle.records.specs.declared.refusal.Refusal.{Refusal}
+use Rattle.code_checks.specs.declared.answer.Comparison.{Comparison}
+use Rattle.code_checks.specs.Answers.{order_number, written_numbers, compared_numbers}
+use Rattle.answer_numbers.specs.Packed.{packed_numbers}
+use Rattle.answer_numbers.proofs.Mapped.{with_value, mapped}
 use Rattle.answer_numbers.proofs.answers.compared_number.Goals as goal
 
-pub agreed-requires : goal.agreed-requires
-agreed-requires c = (rw c.in-Equal.is at c.requires, omega arith)
+count : Comparison → ℕ
+count v = 256 * v.agreement + order_number v.order
 
-pub agreed-requires-in-Before : goal.agreed-requires-in-Before
-agreed-requires-in-Before c = (rw c.in-Before.is at c.requires, omega arith)
+told : (a : Result Comparison Refusal) → written_numbers (with_value count a) ≡ compared_numbers a
+unfolding count
+told (Ok v) = refl
+told (Err e) = refl
 
-pub agreed-requires-in-After : goal.agreed-requires-in-After
-agreed-requires-in-After c = (rw c.in-After.is at c.requires, omega arith)
-
-pub returns-in-Equal : goal.returns-in-Equal
-returns-in-Equal c = rw c.in-Equal.is (omega (arith, c.agreed.ensures))
-
-pub returns-in-Before : goal.returns-in-Before
-returns-in-Before c = rw c.in-Before.is c.agreed-in-Before.ensures
-
-pub returns-in-After : goal.returns-in-After
-returns-in-After c = rw c.in-After.is c.agreed-in-After.ensures
-
-pub returns-in-Refused : goal.returns-in-Refused
-returns-in-Refused c = rw c.in-Refused.is c.refused.ensures
+pub returns : goal.returns
+unfolding count
+returns c =
+    let a = c.args.answer in
+    let same = mapped count a c.map.result c.map.ensures.cases (λ v n p. search rules) in
+    c.written_number.ensures ∙ ap packed_numbers (ap written_numbers same ∙ told a)

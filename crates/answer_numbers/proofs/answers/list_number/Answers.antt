@@ -1,19 +1,34 @@
--- `answers::list_number` meets its contract, case by case. Assumes nothing.
-use Rattle.graphs.specs.Survey as surveys
+-- `answers::list_number` meets its contract: what is counted is 1 or 0. Assumes nothing.
+use Rattle.std.proofs.Common.{◌≡◌, ℕ, Bool, true, false, cond, Result, Ok, Err, refl, ◌∙◌, rules}
+use Rattle.records.specs.declared.refusal.Fault.{Fault}
+use Rattle.records.specs.Catalogued.{catalogued_refusal, catalogued_count}
+use Rattle.records.specs.ListsChecked.{list_refusal, list_value}
+use Rattle.answer_numbers.proofs.Mapped.{with_value, mapped}
 use Rattle.answer_numbers.proofs.answers.list_number.Goals as goal
 
-pub refused-requires : goal.refused-requires
-unfolding surveys.refusal
-refused-requires c = rw c.in-Refused.is at c.requires
+count : Bool → ℕ
+count b = cond b 1 0
 
-pub returns-in-Yes : goal.returns-in-Yes
-unfolding surveys.refusal
-returns-in-Yes c = rw c.in-Yes.is c.counted.ensures
+refusal_told : (a : Result Bool Fault) → catalogued_refusal (with_value count a) ≡ list_refusal a
+refusal_told (Ok b) = refl
+refusal_told (Err f) = refl
 
-pub returns-in-No : goal.returns-in-No
-unfolding surveys.refusal
-returns-in-No c = rw c.in-No.is c.counted-in-No.ensures
+count_told : (a : Result Bool Fault) → catalogued_count (with_value count a) ≡ list_value a
+unfolding count
+count_told (Ok true) = refl
+count_told (Ok false) = refl
+count_told (Err f) = refl
 
-pub returns-in-Refused : goal.returns-in-Refused
-unfolding surveys.refusal
-returns-in-Refused c = rw c.in-Refused.is c.refused.ensures
+pub catalogued_number-requires : goal.catalogued_number-requires
+unfolding count
+catalogued_number-requires c =
+    let a = c.args.answer in
+    let same = mapped count a c.map.result c.map.ensures.cases (λ b n p. search rules) in
+    rw (same, refusal_told a) c.requires
+
+pub returns : goal.returns
+unfolding count
+returns c =
+    let a = c.args.answer in
+    let same = mapped count a c.map.result c.map.ensures.cases (λ b n p. search rules) in
+    c.catalogued_number.ensures ∙ rw (same, refusal_told a, count_told a) refl

@@ -1,18 +1,23 @@
--- `answers::verdict_number` meets its contract, case by case. Assumes nothing.
-use native.Mathlib.Omega.{arith}
+-- `answers::verdict_number` meets its contract: what is counted is the verdict beside the agreement. Assumes nothing.
+use Rattle.std.proofs.Common.{◌≡◌, ◌+◌, ◌*◌, ℕ, cond, Result, Ok, Err, refl, ap, ◌∙◌, rules}
+use Rattle.records.specs.declared.refusal.Refusal.{Refusal}
+use Rattle.code_checks.specs.declared.answer.Verdict.{Verdict}
+use Rattle.code_checks.specs.Answers.{written_numbers, verdict_numbers}
+use Rattle.answer_numbers.specs.Packed.{packed_numbers}
+use Rattle.answer_numbers.proofs.Mapped.{with_value, mapped}
 use Rattle.answer_numbers.proofs.answers.verdict_number.Goals as goal
 
-pub agreed-requires : goal.agreed-requires
-agreed-requires c = (rw c.in-No.is at c.requires, omega arith)
+count : Verdict → ℕ
+count v = 256 * v.agreement + cond v.least 1 0
 
-pub agreed-requires-in-Yes : goal.agreed-requires-in-Yes
-agreed-requires-in-Yes c = (rw c.in-Yes.is at c.requires, omega arith)
+told : (a : Result Verdict Refusal) → written_numbers (with_value count a) ≡ verdict_numbers a
+unfolding count
+told (Ok v) = refl
+told (Err e) = refl
 
-pub returns-in-No : goal.returns-in-No
-returns-in-No c = rw c.in-No.is (omega (arith, c.agreed.ensures))
-
-pub returns-in-Yes : goal.returns-in-Yes
-returns-in-Yes c = rw c.in-Yes.is c.agreed-in-Yes.ensures
-
-pub returns-in-Refused : goal.returns-in-Refused
-returns-in-Refused c = rw c.in-Refused.is c.refused.ensures
+pub returns : goal.returns
+unfolding count
+returns c =
+    let a = c.args.answer in
+    let same = mapped count a c.map.result c.map.ensures.cases (λ v n p. search rules) in
+    c.written_number.ensures ∙ ap packed_numbers (ap written_numbers same ∙ told a)

@@ -1,10 +1,8 @@
--- `settings::read_digits` meets its contract. The invariant: what is left, behind the value so far, reads as the whole. Assumes nothing.
-use mathlib.Core.Path.{◌≡◌}
-use Prim.Native.Nat.{◌^◌, ◌≤◌, ◌<◌}
-use lib.ListN.{length, drop}
+-- What is left, behind the value so far, reads as the whole. Assumes nothing.
+use Rattle.std.proofs.Common.{◌≡◌, ◌≤◌, length, ◌^◌, ◌<◌, drop}
 use Rattle.book.specs.Requests.{digits_read}
 use Rattle.book.proofs.settings.read_digits.Given as goal
 
-abbrev pub invariant-loop-i : goal.invariant-loop-i
-invariant-loop-i l =
-    (l.i ≤ length l.word) × (l.value < 10 ^ l.i) × (digits_read l.value (drop l.i l.word) ≡ digits_read 0 l.word)
+abbrev pub invariant-loop-byte : goal.invariant-loop-byte
+invariant-loop-byte l =
+    (l.byte-index ≤ length l.word) × (l.value < 10 ^ l.byte-index) × (digits_read l.value (drop l.byte-index l.word) ≡ digits_read 0 l.word)

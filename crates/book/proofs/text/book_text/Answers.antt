@@ -8,6 +8,6 @@ returns c =
     let w = c.write_text in
     let u = c.write_book-answer in
     let a = c.args in
-    book_text_made a.a a.b a.limit u.result a.entries.now u.new.output u.ensures
+    book_text_made a.request.devices a.request.cables a.request.limit u.result a.entries.now u.new.output u.ensures
     (omega arith) u.auto.output (λ i. search rules)
     w.result a.text.now w.new.text w.ensures

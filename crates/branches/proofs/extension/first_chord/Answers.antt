@@ -1,12 +1,8 @@
 -- `extension::first_chord` meets its contract. The invariant: no chord goes below place q. Assumes nothing.
-use mathlib.Core.Path.{◌≡◌}
 use native.Mathlib.Omega.{arith}
 use borrow.Author.Rules.{rules}
-use Rattle.branches.specs.ExtensionLaws.{chords_start, chords_next, chord_here, chords_end}
+use Rattle.branches.specs.ExtensionLaws.{chords_next, chord_here}
 use Rattle.branches.proofs.extension.first_chord.Goals as goal
-
-pub loop-q-init : goal.loop-q-init
-loop-q-init c = (search rules, λ used given. chords_start c.args.table.now _)
 
 pub returns-then-l-ne0 : goal.returns-then-l-ne0
 returns-then-l-ne0 c used given =
@@ -17,8 +13,3 @@ loop-q-preserved c = (
   search rules,
   λ used given. chords_next (c.loop-q.invariant.1 used given) (c.chord_label-l.ensures used given) (omega arith),
 )
-
-pub returns : goal.returns
-returns c used given =
-    let e : c.loop-q.q ≡ c.args.count = omega arith in
-    chords_end c.args.table.now _ (rw e at (c.loop-q.invariant.1 used given))

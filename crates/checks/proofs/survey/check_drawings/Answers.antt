@@ -1,40 +1,49 @@
--- `survey::check_drawings` meets its contract. The invariant: what the drawings from d on give is what all give.
--- Assumes nothing.
-use Prim.Native.Nat.{ℕ, ◌≤◌, ◌<◌}
-use mathlib.Core.Path.{sym, ◌∙◌, ap}
-use native.Mathlib.Omega.{arith}
+-- `survey::check_drawings` meets its contract. The invariant: what the drawings that are left give is what all give. Assumes nothing.
+use Rattle.std.proofs.Common.{rules, ℕ, sym, ◌∙◌, ap}
+use Rattle.std.specs.Iterator.Adapters.{enumerate_count}
 use Rattle.graphs.specs.Drawing.{drawing_refusal}
-use Rattle.graphs.specs.Survey.{refusal, drawing_count}
+use Rattle.graphs.specs.Survey.{refusal}
 use Rattle.records.specs.RefusalLaws.{refused_number, refused_positive, accepted_zero}
 use Rattle.checks.specs.SurveyLaws.{drawings_start, drawing_refused, drawing_passed, drawings_end, answer_refused, answer_accepted}
-use Rattle.graphs.specs.AcceptedSurvey.{drawing_part}
+use Rattle.checks.proofs.Pieces.{piece_below, piece_row, piece_left, none_left}
 use Rattle.checks.proofs.survey.check_drawings.Goals as goal
 
-pub loop-d-init : goal.loop-d-init
-loop-d-init c = (c.counted-drawings.ensures, drawings_start c.args.survey.now)
-
-pub returns-in-Refused : goal.returns-in-Refused
-returns-in-Refused c =
+pub loop-drawing-init : goal.loop-drawing-init
+loop-drawing-init c =
     let bs = c.args.survey.now in
-    let l = c.loop-d in
-    let r = c.in-Refused.r in
-    let e = c.check_drawing.ensures ∙ ap drawing_refusal (drawing_part bs l.d) in
-    let h : l.d < drawing_count bs = omega (arith, l.invariant.0, c.loop-d-test.true) in
-    answer_refused _ bs r l.d
-    (ap (λ (n : ℕ). refusal n l.d) (refused_number e c.in-Refused.is)
-    ∙ sym (l.invariant.1 ∙ drawing_refused bs l.d h (refused_positive e c.in-Refused.is)))
+    let is = c.into_iter-drawing-iterator.ensures.into_iter_gives in
+    rw (is, c.enumerate-drawing-items.ensures.source, c.enumerate-drawing-items.ensures.count)
+    (search rules, search rules, c.chunks_exact.ensures.size, c.chunks_exact.ensures.rest, drawings_start bs)
 
-pub loop-d-preserved : goal.loop-d-preserved
-loop-d-preserved c =
+pub returns-in-Err : goal.returns-in-Err
+returns-in-Err c =
     let bs = c.args.survey.now in
-    let l = c.loop-d in
-    let e = c.check_drawing.ensures ∙ ap drawing_refusal (drawing_part bs l.d) in
-    let h : l.d < drawing_count bs = omega (arith, l.invariant.0, c.loop-d-test.true) in
-    (l.invariant.0, l.invariant.1 ∙ drawing_passed bs l.d h (accepted_zero e c.in_default.is))
+    let d = enumerate_count c.loop-drawing.drawing-iterator in
+    let i = c.loop-drawing.invariant in
+    let s = c.in-Some.ensures.steps in
+    let cut = sym i.3 ∙ s.0.1.0 in
+    let whole = s.0.1.1 ∙ i.2 in
+    let r = c.in-Err.is in
+    let e = c.check_drawing.ensures ∙ ap drawing_refusal (piece_row bs _ _ d cut whole) in
+    let told = drawing_refused bs d (piece_below bs _ _ d cut whole) (refused_positive e r) in
+    rw s.1 (answer_refused _ bs _ d (ap (λ (n : ℕ). refusal n d) (refused_number e r) ∙ sym (i.4 ∙ told)))
+
+pub loop-drawing-preserved : goal.loop-drawing-preserved
+loop-drawing-preserved c =
+    let bs = c.args.survey.now in
+    let d = enumerate_count c.loop-drawing.drawing-iterator in
+    let i = c.loop-drawing.invariant in
+    let s = c.in-Some.ensures.steps in
+    let cut = sym i.3 ∙ s.0.1.0 in
+    let whole = s.0.1.1 ∙ i.2 in
+    let e = c.check_drawing.ensures ∙ ap drawing_refusal (piece_row bs _ _ d cut whole) in
+    let passed = drawing_passed bs d (piece_below bs _ _ d cut whole) (accepted_zero e c.in_default.is) in
+    (search rules, search rules, s.0.0 ∙ i.2, rw s.2 (piece_left bs _ _ d cut whole), rw s.2 (i.4 ∙ passed))
 
 pub returns : goal.returns
 returns c =
     let bs = c.args.survey.now in
-    let l = c.loop-d in
-    let h : drawing_count bs ≤ l.d = omega (arith, l.invariant.0, c.loop-d-test.false) in
-    answer_accepted _ bs _ l.invariant.0 (sym (l.invariant.1 ∙ drawings_end bs l.d h))
+    let d = enumerate_count c.loop-drawing.drawing-iterator in
+    let i = c.loop-drawing.invariant in
+    let short = rw i.2 at c.in-None.ensures.steps.0.1.0 in
+    answer_accepted _ bs _ c.counted.ensures (sym (i.4 ∙ drawings_end bs d (none_left bs _ d i.3 short)))

@@ -12,12 +12,14 @@ use Rattle.coding.specs.CodeDrawingLaws.{records_few, drawing_turned_back, outpu
 use Rattle.coding.proofs.code.code_drawing.Goals as goal
 use Rattle.coding.proofs.code.code_drawing.Goals.{After-records_of-bytes, After-section_code}
 
-pub returns-in-Refused : goal.returns-in-Refused
-returns-in-Refused c = drawing_turned_back _ _ _ (refused_number c.check_drawing.ensures c.in-Refused.is)
+pub returns-in_err-check_drawing : goal.returns-in_err-check_drawing
+returns-in_err-check_drawing c =
+    let told = drawing_turned_back c.args.drawing.now c.args.output.now _ (refused_number c.check_drawing.ensures c.in_err-check_drawing.was) in
+    search (rules, told)
 
 -- no refusal applies, m is the number of cables, and n that of the records
 accepted_at : (c : After-records_of-bytes) → drawing_refusal c.args.drawing.now ≡ 0
-accepted_at c = accepted_zero c.check_drawing.ensures c.in_default.is
+accepted_at c = accepted_zero c.check_drawing.ensures c.in_ok-check_drawing.was
 
 cables_at : (c : After-records_of-bytes) → c.counted-m.result.cables ≡ get_or c.args.drawing.now 1 0
 cables_at c = ap (λ (x : Drawing). x.cables) c.counted-m.ensures

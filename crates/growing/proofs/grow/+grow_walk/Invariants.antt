@@ -16,13 +16,13 @@ decreases-grow l = 2 * (l.settings.limit - l.cables)
 abbrev pub decreases-walk : goal.decreases-walk
 decreases-walk l = 2 * (l.settings.limit - l.cables) - 1
 
-abbrev pub invariant-walk-loop-settings : goal.invariant-walk-loop-settings
-invariant-walk-loop-settings l =
+abbrev pub invariant-walk-loop-next : goal.invariant-walk-loop-next
+invariant-walk-loop-next l =
     OnTheWay l.survey l.alphabet l.settings l.kind (recs_in l.cables l.initial.code) l.initial.list l.from l.top
     (page l.settings.checking l.given l.initial.output) l.count l.k l.cells l.seen l.list
     (page l.settings.checking l.given l.output) l.written
     × CodeKept l.cables l.devices l.initial.code l.initial.kinds l.code l.kinds
     × ListsKept (l.cables + 1) l.initial.kept l.initial.ends l.kept l.ends × (length l.output ≡ length l.initial.output)
 
-abbrev pub decreases-walk-loop-settings : goal.decreases-walk-loop-settings
-decreases-walk-loop-settings l = l.top - l.k
+abbrev pub decreases-walk-loop-next : goal.decreases-walk-loop-next
+decreases-walk-loop-next l = l.top - l.k

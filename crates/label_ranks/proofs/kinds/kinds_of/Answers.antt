@@ -1,17 +1,9 @@
 -- `kinds::kinds_of` meets its contract. The invariant: the kinds of the first d drawings are marked. Assumes nothing.
-use mathlib.Core.Path.{◌≡◌}
-use mathlib.Core.Bool.{Bool, false}
 use native.Mathlib.Omega.{arith}
-use lib.ListN.{length-replicate}
 use borrow.Author.Rules.{rules}
-use Rattle.graphs.specs.Survey.{drawing_count}
 use Rattle.graphs.specs.AcceptedSurvey.{drawing_part, accepted_survey}
-use Rattle.walks.specs.KindLaws.{occurs_none, occurs_next}
+use Rattle.walks.specs.KindLaws.{occurs_next}
 use Rattle.label_ranks.proofs.kinds.kinds_of.Goals as goal
-
-pub loop-d-init : goal.loop-d-init
-loop-d-init c =
-    (c.counted-drawings.ensures, search rules, occurs_none c.args.survey.now _ (length-replicate {A = Bool} 256 false))
 
 pub note_kinds-requires : goal.note_kinds-requires
 note_kinds-requires c =
@@ -26,9 +18,3 @@ loop-d-preserved c =
       occurs_next c.args.survey.now l.d l.occurs _ l.invariant.2
           (rw (drawing_part c.args.survey.now l.d) at c.note_kinds.ensures),
     )
-
-pub returns : goal.returns
-returns c =
-    let l = c.loop-d in
-    let e : l.d ≡ drawing_count c.args.survey.now = omega arith in
-    rw e at l.invariant.2

@@ -7,6 +7,3 @@ use Rattle.label_ranks.proofs.kinds.kinds_of.Given as goal
 
 abbrev pub invariant-loop-d : goal.invariant-loop-d
 invariant-loop-d l = (l.drawings ≡ drawing_count l.survey) × (l.d ≤ l.drawings) × OccursBefore l.d l.survey l.occurs
-
-abbrev pub decreases-loop-d : goal.decreases-loop-d
-decreases-loop-d l = l.drawings - l.d

@@ -1,10 +1,7 @@
--- `kinds::note_kinds` meets its contract. The invariant: the kinds of the first u places are marked. Assumes nothing.
-use Prim.Native.Nat.{◌-◌, ◌≤◌}
+-- `kinds::note_kinds` meets its contract. The invariant: the kinds of the places so far are marked. Assumes nothing.
+use Prim.Native.Nat.{◌≤◌}
 use Rattle.walks.specs.Kinds.{Noted}
 use Rattle.label_ranks.proofs.kinds.note_kinds.Given as goal
 
-abbrev pub invariant-loop-u : goal.invariant-loop-u
-invariant-loop-u l = (l.u ≤ 10) × Noted l.drawing l.u l.initial.occurs l.occurs
-
-abbrev pub decreases-loop-u : goal.decreases-loop-u
-decreases-loop-u l = 10 - l.u
+abbrev pub invariant-loop-kind : goal.invariant-loop-kind
+invariant-loop-kind l = (l.kind-index ≤ 10) × Noted l.drawing l.kind-index l.initial.occurs l.occurs

@@ -1,30 +1,44 @@
 -- `below::search_below`, `search_anew` and `search_edges`, which call each other, meet their contracts. Assumes nothing.
-use Rattle.std.proofs.Common.{◌≡◌, ℕ, ◌+◌, ◌<◌, List, refl, ◌∙◌, subst, arith}
+use Rattle.std.proofs.Common.{ℕ, ◌+◌, ◌<◌, List, refl, ◌∙◌, ap, subst, arith, Some}
 use Rattle.graphs.specs.Drawing.{drawing_in}
 use Rattle.codes.specs.Code.{Rec, recs_in}
 use Rattle.codes.specs.BranchState.{State}
-use Rattle.code_records.specs.declared.«record».Order.TheVariants.{Before}
+use Rattle.std.specs.declared.cmp.Ordering.TheVariants.{Less}
 use Rattle.code_records.specs.Records.{as_rec}
+use Rattle.branches.specs.declared.extension.Extension.{Extension}
 use Rattle.branches.specs.declared.extension.Extension.TheVariants.{Edge}
+use Rattle.branches.specs.Extensions.{ExtensionFound}
 use Rattle.branches.specs.Branches.{in_place}
 use Rattle.branches.specs.InPlaceLaws.{bounds_places, all_same, same_place, same_placed, given_place, taken_place}
-use Rattle.branches.specs.Ways.{TiesWay, NextWay}
+use Rattle.branches.specs.Ways.{PassedBelow, FirstWay}
 use Rattle.least_below.specs.Searches.{AnewFrom, WaysDone}
 use Rattle.least_below.specs.SearchBest.{before_goes_on, equal_goes_on}
-use Rattle.least_below.specs.SearchLaws.{search_bounds, makes_record}
-use Rattle.least_below.specs.SearchCalls.{best_counts, search_end, cable_left, ways_first, ways_skip, way_call, way_return, edge_placed, edge_tie_room, NextMet, back_call, back_done, front_call, front_done, never_nothing, none_behind, BestRow, row_behind, row_later, row_earlier, row_back_met, row_front_met, anew_left, anew_met}
+use Rattle.least_below.specs.SearchLaws.{search_bounds, found_some, makes_record}
+use Rattle.least_below.specs.SearchCalls.{best_counts, search_end, cable_left, ways_first, ways_skip, way_call, way_return, edge_placed, edge_tie_room, NextMet, back_call, back_done, front_call, front_done, none_behind, BestRow, row_behind, row_later, row_earlier, row_back_met, row_front_met, anew_left, anew_met}
 use Rattle.least_below.proofs.below.+search_anew_search_below_search_edges.Goals as goal
-use Rattle.least_below.proofs.below.+search_anew_search_below_search_edges.Goals.{search_anew-After-put_record, search_below-After-at-row, search_below-Joined-t-held, search_below-then-t-held+in-Earlier, search_below-else-t-held, search_edges-After-next_tie-w, search_edges-Else-w-eq-MOST_DEVICES}
+use Rattle.least_below.proofs.below.+search_anew_search_below_search_edges.Goals.{search_anew-After-unwrap-found, search_anew-After-put_record, search_below-After-at-row, search_below-Joined-t-held, search_below-then-t-held+in-Earlier, search_below-else-t-held, search_edges-In-Some}
 
--- ANEW
-pub search_anew-least_extension-found-requires : goal.search_anew-least_extension-found-requires
-search_anew-least_extension-found-requires t c =
+-- ANEW: a cable is left, so that something is found
+pub search_anew-least_extension-requires : goal.search_anew-least_extension-requires
+search_anew-least_extension-requires t c =
     let p = c.requires.0.1.from in
     (bounds_places _ (search_bounds p), p.represents.used_size)
 
+pub search_anew-unwrap-found-requires : goal.search_anew-unwrap-found-requires
+search_anew-unwrap-found-requires t c =
+    let p = c.requires.0.1 in
+    found_some p.from p.more c.least_extension.result (c.least_extension.ensures c.args.given)
+
+found_at :
+    (t : ℕ) (c : search_anew-After-unwrap-found t)
+    → let a = c.args in
+    ExtensionFound a.table.now (in_place a.numbers.now a.used.now a.path.now a.count a.given a.low) (Some c.unwrap-found.result)
+found_at t c = rw c.unwrap-found.ensures at (c.least_extension.ensures c.args.given)
+
 pub search_anew-next_record-next-requires : goal.search_anew-next_record-next-requires
 search_anew-next_record-next-requires t c =
-    makes_record c.requires.0.1.from c.least_extension-found.result (c.least_extension-found.ensures c.args.given)
+    makes_record c.requires.0.1.from (Some c.unwrap-found.result)
+    (found_at t (goal.at.search_anew-next_record-next-requires t c).After-unwrap-found)
 
 pub search_anew-put_record-requires : goal.search_anew-put_record-requires
 search_anew-put_record-requires t c = (omega (arith, anew_left c.args.t c.args.best.now c.requires.0.1), c.requires.2)
@@ -38,10 +52,10 @@ met_at :
     (in_place a.numbers.now a.used.now a.path.now a.count a.given a.low) old
     → NextMet a.drawing.now a.table.now a.m a.t
     (in_place a.numbers.now a.used.now a.path.now a.count a.given a.low) a.best.now old
-    c.least_extension-found.result (as_rec c.next_record-next.result) Before
+    (Some c.unwrap-found.result) (as_rec c.next_record-next.result) Less
 met_at t c old z =
     let a = c.args in
-    anew_met a.t a.best.now z c.least_extension-found.result (c.least_extension-found.ensures a.given) _
+    anew_met a.t a.best.now z (Some c.unwrap-found.result) (rw c.unwrap-found.ensures at (c.least_extension.ensures a.given)) _
     (c.next_record-next.ensures a.used.now a.low)
 
 pub search_anew-overflow_add-t : goal.search_anew-overflow_add-t
@@ -56,8 +70,9 @@ search_anew-search_below-requires t c =
     let p = (goal.at.search_anew-search_below-requires t c).After-put_record in (
       omega (arith, c.decreases, anew_left c.args.t c.args.best.now z.1),
       (
-        back_call (met_at t p z.0 z.1) before_goes_on c.put_record.new.code (c.args.t + 1) c.put_record.ensures.records
-            c.in-Chord.field-0 c.in-Chord.field-1 c.in-Chord.is,
+        rw c.from.ensures
+            (back_call (met_at t p z.0 z.1) before_goes_on c.put_record.new.code (c.args.t + 1) c.put_record.ensures.records
+            c.in-Chord.field-0 c.in-Chord.field-1 (ap (λ (e : Extension). Some e) c.in-Chord.is)),
         c.requires.1,
         c.put_record.ensures.long ∙ c.requires.2,
       ),
@@ -73,21 +88,18 @@ search_anew-search_edges-requires t c =
       omega (arith, c.decreases, anew_left c.args.t c.args.best.now z.1),
       (
         front_call (met_at t p z.0 z.1) before_goes_on c.put_record.new.code (c.args.t + 1) c.put_record.ensures.records
-            c.in-Edge.q c.in-Edge.l c.in-Edge.is,
+            c.in-Edge.q c.in-Edge.l (ap (λ (e : Extension). Some e) c.in-Edge.is),
         c.requires.1,
         c.put_record.ensures.long ∙ c.requires.2,
       ),
     )
-
-pub search_anew-overflow_add-result : goal.search_anew-overflow_add-result
-search_anew-overflow_add-result t c = omega (arith, anew_left c.args.t c.args.best.now c.requires.0.1)
 
 pub search_anew-returns-in-Chord : goal.search_anew-returns-in-Chord
 search_anew-returns-in-Chord t c =
     let p = (goal.at.search_anew-returns-in-Chord t c).After-put_record in (
       λ old z.
           back_done (met_at t p old z) before_goes_on c.put_record.new.code (c.args.t + 1) c.put_record.ensures.records
-          c.in-Chord.field-0 c.in-Chord.field-1 c.in-Chord.is _ c.search_below.result c.search_below.ensures.0,
+          c.in-Chord.field-0 c.in-Chord.field-1 (ap (λ (e : Extension). Some e) c.in-Chord.is) _ c.search_below.result c.search_below.ensures.0,
       c.search_below.ensures.1,
       c.search_below.ensures.2,
     )
@@ -97,16 +109,10 @@ search_anew-returns-in-Edge t c =
     let p = (goal.at.search_anew-returns-in-Edge t c).After-put_record in (
       λ old z.
           front_done (met_at t p old z) before_goes_on c.put_record.new.code (c.args.t + 1) c.put_record.ensures.records
-          c.in-Edge.q c.in-Edge.l c.in-Edge.is _ c.search_edges.result c.search_edges.ensures.0,
+          c.in-Edge.q c.in-Edge.l (ap (λ (e : Extension). Some e) c.in-Edge.is) _ c.search_edges.result c.search_edges.ensures.0,
       c.search_edges.ensures.1,
       c.search_edges.ensures.2,
     )
-
-pub search_anew-returns-in-None : goal.search_anew-returns-in-None
-search_anew-returns-in-None t c =
-    let z = c.requires.0 in
-    let p = (goal.at.search_anew-returns-in-None t c).After-put_record in
-    absurd (never_nothing (met_at t p z.0 z.1) before_goes_on c.put_record.new.code (c.args.t + 1) c.put_record.ensures.records c.in-None.is)
 
 -- AGAINST THE BEST
 pub search_below-returns-then-t-m : goal.search_below-returns-then-t-m
@@ -151,7 +157,7 @@ search_below-search_below-requires t c =
     let there = there_at t (goal.at.search_below-search_below-requires t c).After-at-row in
     let met = row_back_met there (c.in-Back.ensures (drawing_in a.drawing.now) (recs_in a.t a.best.now) a.given (row_behind there)) in (
       omega (arith, c.decreases, there.more),
-      (back_call met equal_goes_on a.best.now a.held refl _ _ refl, c.requires.1, c.requires.2),
+      (rw c.from.ensures (back_call met equal_goes_on a.best.now a.held refl _ _ refl), c.requires.1, c.requires.2),
     )
 
 pub search_below-returns-in-Back : goal.search_below-returns-in-Back
@@ -219,74 +225,54 @@ search_below-returns t c = (
 )
 
 -- EACH WAY
-pub search_edges-loop-m-init : goal.search_edges-loop-m-init
-search_edges-loop-m-init t c = (omega arith, all_same, c.requires.2, ways_first c.requires.0.1)
+pub search_edges-loop-w-init : goal.search_edges-loop-w-init
+search_edges-loop-w-init t c = (omega arith, all_same, c.requires.2, ways_first c.requires.0.1)
 
-pub search_edges-next_tie-w-requires : goal.search_edges-next_tie-w-requires
-search_edges-next_tie-w-requires t c =
-    let h = same_placed c.loop-m.invariant.1 _ (edge_placed c.requires.0.1) in
+pub search_edges-next_tie-requires : goal.search_edges-next_tie-requires
+search_edges-next_tie-requires t c =
+    let h = same_placed c.loop-w.invariant.1 _ (edge_placed c.requires.0.1) in
     (h.0, h.1, c.requires.1)
 
 -- the next way is found, and those before it are searched or passed over
 next_at :
-    (t : ℕ) (c : search_edges-After-next_tie-w t)
+    (t : ℕ) (c : search_edges-In-Some t)
     → let a = c.args in
-    NextWay a.table.now (in_place a.numbers.now a.used.now a.path.now a.count a.given a.low) (Edge a.q a.l)
-    c.loop-m.from c.next_tie-w.result
+    FirstWay a.table.now (in_place a.numbers.now a.used.now a.path.now a.count a.given a.low) (Some (Edge a.q a.l))
+    c.loop-w.from c.in-Some.w
 next_at t c =
     let a = c.args in
-    subst (λ (b : State). NextWay a.table.now b (Edge a.q a.l) c.loop-m.from c.next_tie-w.result)
-    (same_place c.loop-m.invariant.1 a.count a.given a.low)
-    (c.next_tie-w.ensures a.count a.given a.low)
+    subst (λ (b : State). FirstWay a.table.now b (Some (Edge a.q a.l)) c.loop-w.from c.in-Some.w)
+    (same_place c.loop-w.invariant.1 a.count a.given a.low)
+    (rw c.in-Some.is at (c.next_tie.ensures a.count a.given a.low))
 
 ways_at :
-    (t : ℕ) (c : search_edges-After-next_tie-w t)
+    (t : ℕ) (c : search_edges-In-Some t)
     → let a = c.args in
     WaysDone a.drawing.now a.table.now a.t
-    (in_place a.numbers.now a.used.now a.path.now a.count a.given a.low) (Edge a.q a.l) a.best.now a.held
-    c.loop-m.best c.loop-m.kept c.next_tie-w.result
+    (in_place a.numbers.now a.used.now a.path.now a.count a.given a.low) (Some (Edge a.q a.l)) a.best.now a.held
+    c.loop-w.best c.loop-w.kept c.in-Some.w
 ways_at t c =
-    let l = c.loop-m in
-    ways_skip c.requires.0.1 l.best l.kept l.from l.invariant.3 c.next_tie-w.result (next_at t c).first
-
-pub search_edges-returns-then-w-eq-MOST_DEVICES : goal.search_edges-returns-then-w-eq-MOST_DEVICES
-search_edges-returns-then-w-eq-MOST_DEVICES t c =
-    let ways = ways_at t (goal.at.search_edges-returns-then-w-eq-MOST_DEVICES t c).After-next_tie-w in
-    (rw c.if-w-eq-MOST_DEVICES.true at ways, c.loop-m.invariant.1, c.loop-m.invariant.2)
-
--- a device that ties
-tie_at :
-    (t : ℕ) (c : search_edges-After-next_tie-w t) → (c.next_tie-w.result ≡ 10 → ⊥)
-    → let a = c.args in
-    (c.next_tie-w.result < 10)
-    × TiesWay a.table.now (in_place a.numbers.now a.used.now a.path.now a.count a.given a.low) a.q a.l c.next_tie-w.result
-tie_at t c other =
-    let next = next_at t c in
-    let low : c.next_tie-w.result < 10 = omega (arith, next.low) in
-    (low, next.way low)
+    let l = c.loop-w in
+    ways_skip c.requires.0.1 l.best l.kept l.from l.invariant.3 c.in-Some.w (next_at t c).first
 
 -- there is room for its number
-room_at :
-    (t : ℕ) (c : search_edges-After-next_tie-w t) → (c.next_tie-w.result ≡ 10 → ⊥)
-    → (c.args.given < 10) × (c.args.q < 9) × (c.next_tie-w.result < 10)
-room_at t c other = edge_tie_room c.requires.0.1 c.next_tie-w.result (tie_at t c other).1
+room_at : (t : ℕ) (c : search_edges-In-Some t) → (c.args.given < 10) × (c.args.q < 9) × (c.in-Some.w < 10)
+room_at t c = edge_tie_room c.requires.0.1 c.in-Some.w (next_at t c).way
 
 pub search_edges-give_number-was-requires : goal.search_edges-give_number-was-requires
-search_edges-give_number-was-requires t c =
-    room_at t (goal.at.search_edges-give_number-was-requires t c).After-next_tie-w c.if-w-eq-MOST_DEVICES.false
+search_edges-give_number-was-requires t c = room_at t (goal.at.search_edges-give_number-was-requires t c).In-Some
 
 pub search_edges-overflow_add-q : goal.search_edges-overflow_add-q
-search_edges-overflow_add-q t c =
-    omega (arith, room_at t (goal.at.search_edges-overflow_add-q t c).After-next_tie-w c.if-w-eq-MOST_DEVICES.false)
+search_edges-overflow_add-q t c = omega (arith, room_at t (goal.at.search_edges-overflow_add-q t c).In-Some)
 
 pub search_edges-search_below-kept-requires : goal.search_edges-search_below-kept-requires
 search_edges-search_below-kept-requires t c =
-    let k = (goal.at.search_edges-search_below-kept-requires t c).After-next_tie-w in
+    let k = (goal.at.search_edges-search_below-kept-requires t c).In-Some in
     let z = c.requires.0.1 in
-    let l = c.loop-m in (
+    let l = c.loop-w in (
       omega (arith, c.decreases, z.more),
       (
-        way_call z l.best l.kept c.next_tie-w.result (ways_at t k) (tie_at t k c.if-w-eq-MOST_DEVICES.false).1 _
+        way_call z l.best l.kept c.in-Some.w (ways_at t k) (next_at t k).way _
             (given_place l.invariant.1 c.give_number-was.ensures c.args.count c.args.low),
         c.requires.1,
         l.invariant.2,
@@ -294,29 +280,36 @@ search_edges-search_below-kept-requires t c =
     )
 
 pub search_edges-take_number-requires : goal.search_edges-take_number-requires
-search_edges-take_number-requires t c =
-    room_at t (goal.at.search_edges-take_number-requires t c).After-next_tie-w c.if-w-eq-MOST_DEVICES.false
+search_edges-take_number-requires t c = room_at t (goal.at.search_edges-take_number-requires t c).In-Some
 
 pub search_edges-overflow_add-from : goal.search_edges-overflow_add-from
-search_edges-overflow_add-from t c =
-    omega (arith, room_at t (goal.at.search_edges-overflow_add-from t c).After-next_tie-w c.if-w-eq-MOST_DEVICES.false)
+search_edges-overflow_add-from t c = omega (arith, room_at t (goal.at.search_edges-overflow_add-from t c).In-Some)
 
-pub search_edges-loop-m-smaller : goal.search_edges-loop-m-smaller
-search_edges-loop-m-smaller t c =
-    let k = (goal.at.search_edges-loop-m-smaller t c).After-next_tie-w in
-    let low = (tie_at t k c.if-w-eq-MOST_DEVICES.false).0 in
-    omega (arith, (next_at t k).rises low, low)
+pub search_edges-loop-w-smaller : goal.search_edges-loop-w-smaller
+search_edges-loop-w-smaller t c =
+    let next = next_at t (goal.at.search_edges-loop-w-smaller t c).In-Some in
+    omega (arith, next.rises, next.low)
 
-pub search_edges-loop-m-preserved : goal.search_edges-loop-m-preserved
-search_edges-loop-m-preserved t c =
-    let k = (goal.at.search_edges-loop-m-preserved t c).After-next_tie-w in
-    let tie = tie_at t k c.if-w-eq-MOST_DEVICES.false in
-    let l = c.loop-m in
+pub search_edges-loop-w-preserved : goal.search_edges-loop-w-preserved
+search_edges-loop-w-preserved t c =
+    let k = (goal.at.search_edges-loop-w-preserved t c).In-Some in
+    let next = next_at t k in
+    let l = c.loop-w in
     let g = c.give_number-was.ensures in
     let done = c.search_below-kept.ensures in (
-      omega (arith, tie.0),
-      taken_place l.invariant.1 g done.1 c.take_number.ensures tie.1.free.unused,
+      omega (arith, next.low),
+      taken_place l.invariant.1 g done.1 c.take_number.ensures next.way.free.unused,
       done.2,
-      way_return c.requires.0.1 l.best l.kept c.next_tie-w.result (ways_at t k) tie.1 _
+      way_return c.requires.0.1 l.best l.kept c.in-Some.w (ways_at t k) next.way _
           (given_place l.invariant.1 g c.args.count c.args.low) _ c.search_below-kept.result done.0,
     )
+
+-- no way is left
+pub search_edges-returns : goal.search_edges-returns
+search_edges-returns t c =
+    let a = c.args in
+    let l = c.loop-w in
+    let none = subst (λ (b : State). PassedBelow a.table.now b (Some (Edge a.q a.l)) l.from 10)
+    (same_place l.invariant.1 a.count a.given a.low)
+    (rw c.in_default.is at (c.next_tie.ensures a.count a.given a.low)) in
+    (ways_skip c.requires.0.1 l.best l.kept l.from l.invariant.3 10 none, l.invariant.1, l.invariant.2)

@@ -2,8 +2,8 @@
 use Rattle.std.proofs.Common.{◌≡◌, ℕ, ◌+◌, ◌≤◌, ◌<◌, Bool, List, length, sym, ap, ◌∙◌, subst, arith, rules}
 use mathlib.Core.Logic.{⊎_elim}
 use Rattle.codes.specs.BranchState.{State}
-use Rattle.code_records.specs.declared.«record».Order.{Order}
-use Rattle.code_records.specs.declared.«record».Order.TheVariants.{Before, Equal, After}
+use Rattle.std.specs.declared.cmp.Ordering.{Ordering}
+use Rattle.std.specs.declared.cmp.Ordering.TheVariants.{Less, Equal, Greater}
 use Rattle.branches.specs.Branches.{in_place, device_placed, SameArrays}
 use Rattle.branches.specs.InPlaceLaws.{all_same, joined, given_place, taken_place}
 use Rattle.least_seen.specs.Betters.{FirstBetter}
@@ -15,7 +15,7 @@ use Rattle.least_branches.proofs.better.+first_better_first_better_ahead.Goals.{
 
 -- what is told of a backward record
 told :
-    (t : ℕ) (c : first_better-After-chord_order t) (o : Order)
+    (t : ℕ) (c : first_better-After-chord_order t) (o : Ordering)
     → let a = c.args in
     ChordTold a.table.now a.numbers.now a.path.now a.count a.low c.place_of-q.result c.wanted_label.result o
     → ChordTold a.table.now a.numbers.now a.path.now a.count a.low c.place_of-q.result (wanted_label a.code.now a.t) o
@@ -48,18 +48,19 @@ first_better-first_better-requires t c =
     let h : c.args.t < c.args.m = omega (arith, p.low, c.if-t-m.false) in (
       omega (arith, c.decreases),
       (
-        chord_goes p h (λ h. omega (arith, h, c.if-i-j.false)) c.place_of-q.result c.place_of-q.ensures.0 c.place_of-q.ensures.1
-            c.wanted_label.ensures.1 (told t (goal.at.first_better-first_better-requires t c).After-chord_order Equal c.in-Equal.ensures),
+        rw c.from.ensures
+            (chord_goes p h (λ h. omega (arith, h, c.if-i-j.false)) c.place_of-q.result c.place_of-q.ensures.0 c.place_of-q.ensures.1
+            c.wanted_label.ensures.1 (told t (goal.at.first_better-first_better-requires t c).After-chord_order Equal c.in-Equal.ensures)),
         c.requires.1,
       ),
     )
 
-pub first_better-returns-in-Before : goal.first_better-returns-in-Before
-first_better-returns-in-Before t c =
+pub first_better-returns-in-Less : goal.first_better-returns-in-Less
+first_better-returns-in-Less t c =
     let p = c.requires.0 in (
       first_chord_before p (omega (arith, p.low, c.if-t-m.false)) (λ h. omega (arith, h, c.if-i-j.false))
           c.place_of-q.result c.place_of-q.ensures.0 c.place_of-q.ensures.1 c.wanted_label.ensures.1
-          (told t (goal.at.first_better-returns-in-Before t c).After-chord_order Before c.in-Before.ensures),
+          (told t (goal.at.first_better-returns-in-Less t c).After-chord_order Less c.in-Less.ensures),
       all_same,
     )
 
@@ -73,12 +74,12 @@ first_better-returns-in-Equal t c =
       c.first_better.ensures.1,
     )
 
-pub first_better-returns-in-After : goal.first_better-returns-in-After
-first_better-returns-in-After t c =
+pub first_better-returns-in-Greater : goal.first_better-returns-in-Greater
+first_better-returns-in-Greater t c =
     let p = c.requires.0 in (
       first_chord_after p (omega (arith, p.low, c.if-t-m.false)) (λ h. omega (arith, h, c.if-i-j.false))
           c.place_of-q.result c.place_of-q.ensures.0 c.place_of-q.ensures.1 c.wanted_label.ensures.1
-          (told t (goal.at.first_better-returns-in-After t c).After-chord_order After c.in-After.ensures),
+          (told t (goal.at.first_better-returns-in-Greater t c).After-chord_order Greater c.in-Greater.ensures),
       all_same,
     )
 

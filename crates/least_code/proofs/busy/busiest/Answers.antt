@@ -21,7 +21,7 @@ pub bounds-counts-a : goal.bounds-counts-a
 bounds-counts-a c = (low c).0
 
 pub bounds-counts-b : goal.bounds-counts-b
-bounds-counts-b c = (low c).1
+bounds-counts-b c = (low (goal.at.bounds-counts-b c).After-at-cable).1
 
 pub overflow_add-both : goal.overflow_add-both
 overflow_add-both c =

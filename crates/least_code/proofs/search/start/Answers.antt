@@ -24,16 +24,16 @@ next_is :
     as_rec c.first_record-next.result ≡ first_record (drawing_in a.drawing.now) a.cable.a a.cable.b a.cable.kind
 next_is c = c.first_record-next.ensures ∙ first_is c.requires.0
 
-pub returns-in-After : goal.returns-in-After
-returns-in-After c =
-    (start_left c.args.best.now c.args.held c.requires.0 _ (next_is (goal.at.returns-in-After c).After-first_record-next) _ c.order_at-order.ensures c.in-After.is, c.requires.2)
+pub returns-in-Greater : goal.returns-in-Greater
+returns-in-Greater c =
+    (start_left c.args.best.now c.args.held c.requires.0 _ (next_is (goal.at.returns-in-Greater c).After-first_record-next) _ c.order_at-order.ensures c.in-Greater.is, c.requires.2)
 
 pub search_first-requires : goal.search_first-requires
 search_first-requires c =
     let low = start_low c.requires.0 in (
       low.0,
       low.1,
-      start_call c.args.best.now c.args.held c.requires.0 _ (next_is (goal.at.search_first-requires c).After-first_record-next) _ c.order_at-order.ensures c.in_default.not-After c.choose_at-kept.new.best
+      start_call c.args.best.now c.args.held c.requires.0 _ (next_is (goal.at.search_first-requires c).After-first_record-next) _ c.order_at-order.ensures c.in_default.not-Greater c.choose_at-kept.new.best
           c.choose_at-kept.result c.choose_at-kept.ensures.0,
       c.requires.1,
       c.choose_at-kept.ensures.1,
@@ -41,7 +41,7 @@ search_first-requires c =
 
 pub returns : goal.returns
 returns c = (
-  start_return c.args.best.now c.args.held c.requires.0 _ (next_is (goal.at.returns c).After-first_record-next) _ c.order_at-order.ensures c.in_default.not-After c.choose_at-kept.new.best
+  start_return c.args.best.now c.args.held c.requires.0 _ (next_is (goal.at.returns c).After-first_record-next) _ c.order_at-order.ensures c.in_default.not-Greater c.choose_at-kept.new.best
       c.choose_at-kept.result c.choose_at-kept.ensures.0 _ c.search_first.ensures.0,
   c.search_first.ensures.1,
 )

@@ -1,6 +1,5 @@
 -- `clear::clearly_least` meets its contract. Assumes nothing.
 use mathlib.Core.Path.{sym, subst}
-use mathlib.Core.Bool.{false≢true}
 use Prim.Native.Nat.{ℕ}
 use native.Mathlib.Omega.{arith}
 use borrow.Author.Rules.{rules}
@@ -32,6 +31,3 @@ returns-then-starts_after c e =
     (subst (StartsAfter bs c.labels_number.result) c.requires.1 (c.starts_after.ensures.holds c.if-starts_after.true))
     (subst (λ (m : ℕ). SomeParts bs m → ⊥) c.requires.1 (c.some_parts.ensures.fails (not-true c.some_parts.result e)))
     c.requires.2)
-
-pub returns : goal.returns
-returns c e = absurd (false≢true e)

@@ -1,33 +1,13 @@
--- `clear::some_parts` meets its contract. The invariant: no record from the second to the k-th parts again. Assumes nothing.
-use Prim.Native.Nat.{ℕ, ◌≤◌}
-use native.Mathlib.Omega.{arith}
-use borrow.Author.Count.{below_more}
-use borrow.Author.Rules.{rules}
-use Rattle.laws.specs.Decides.{decides_true, decides_false}
+-- `clear::some_parts` meets its contract. Assumes nothing.
+use Rattle.std.proofs.Common.{rules, arith}
+use Rattle.tables.specs.RangeTests.{decides_any}
 use Rattle.least_grown.specs.ClearlyLeast.{PartsAgain}
 use Rattle.least_grown.proofs.clear.some_parts.Goals as goal
 
-pub loop-k-init : goal.loop-k-init
-loop-k-init c = (search rules, λ h l g. absurd (omega arith))
-
-pub parts_again-requires : goal.parts_again-requires
-parts_again-requires c = (c.requires.0, omega arith)
-
-pub returns-then-parts_again : goal.returns-then-parts_again
-returns-then-parts_again c =
-    let l = c.loop-k in
-    decides_true (record { k = l.k; some = l.invariant.0; low = omega arith; parts = c.parts_again.ensures.holds c.if-parts_again.true })
-
-pub loop-k-preserved : goal.loop-k-preserved
-loop-k-preserved c =
-    let l = c.loop-k in
-    let a = c.args in (
-      search rules,
-      below_more (λ (h : ℕ). 1 ≤ h → PartsAgain a.code.now a.m h → ⊥) l.k l.invariant.1
-          (λ h x. c.parts_again.ensures.fails c.if-parts_again.false x),
-    )
-
 pub returns : goal.returns
 returns c =
-    let l = c.loop-k in
-    decides_false (λ x. l.invariant.1 x.k (omega (arith, x.low)) x.some x.parts)
+    let d = decides_any (PartsAgain c.args.code.now c.args.m) (λ x b q k. search rules) c.any.ensures.ran in
+    record {
+      holds = λ e. let w = d.holds e in record { k = w.k; some = w.from; low = omega (arith, w.below); parts = w.is };
+      fails = λ e x. d.fails e (record { k = x.k; from = x.some; below = omega (arith, x.low); is = x.parts });
+    }

@@ -1,14 +1,12 @@
 -- `map::match_drawing` meets its contract: the refusals in their order, then what the search finds. Assumes nothing.
-use mathlib.Core.List.{List}
-use Prim.Native.Nat.{ℕ}
-use mathlib.Core.Path.{◌≡◌, refl, ap, ◌∙◌}
-use native.Mathlib.Omega.{arith}
+use Rattle.std.proofs.Common.{rules, ◌≡◌, ◌≤◌, List, ℕ, length, refl, ap, ◌∙◌, arith, length-take-le, Err, Some}
 use Rattle.graphs.specs.Drawing.{devices, drawing_in, drawing_refusal}
 use Rattle.records.specs.declared.drawing.Drawing.{Drawing}
 use Rattle.records.specs.Drawings.{counts_in}
 use Rattle.records.specs.Refusals.{first_of}
 use Rattle.records.specs.RefusalLaws.{refused_number, refused_positive, accepted_zero}
 use Rattle.graphs.specs.AcceptedDrawing.{accepted_count, accepted_most}
+use Rattle.map_search.specs.MapSearch.{LeastMapSays}
 use Rattle.matching.specs.MatchAnswerLaws.{both_accepted, match_refused, match_short, match_found, match_not_found}
 use Rattle.matching.proofs.map.match_drawing.Goals as goal
 
@@ -18,37 +16,56 @@ count :
     → n.devices ≡ devices (drawing_in xs)
 count xs ys a e = ap (λ (x : Drawing). x.devices) e ∙ accepted_count _ (both_accepted _ _ a).0
 
-pub returns-in-Refused : goal.returns-in-Refused
-returns-in-Refused c =
-    let r = c.in-Refused.is in
+-- and a map has as many bytes at least
+few :
+    (xs ys : List ℕ) {n : Drawing} {map : List ℕ} → first_of (drawing_refusal xs) (drawing_refusal ys) ≡ 0 → n ≡ counts_in xs
+    → LeastMapSays xs ys (Some map) → n.devices ≤ length map
+few xs ys a e says = omega (arith, count xs ys a e, accepted_most _ (both_accepted _ _ a).0, says.size)
+
+pub returns-in_err-check_both : goal.returns-in_err-check_both
+returns-in_err-check_both c =
+    let r = c.in_err-check_both.was in
     let e = c.check_both.ensures in
-    match_refused _ _ _ refl (refused_positive e r) _ (refused_number e r)
+    let is : c.from_residual.result ≡ Err c.in_err-check_both.field-0.0 = search rules in
+    rw is (match_refused _ _ _ refl (refused_positive e r) _ (refused_number e r))
 
 pub returns-then-output-n : goal.returns-then-output-n
 returns-then-output-n c =
-    let a = accepted_zero c.check_both.ensures c.in_default.is in
+    let a = accepted_zero c.check_both.ensures c.in_ok-check_both.was in
     match_short _ _ _ a (omega (arith, c.if-output-n.true, count _ _ a c.counted-n.ensures))
 
 pub least_map-requires : goal.least_map-requires
-least_map-requires c =
-    let o = both_accepted _ _ (accepted_zero c.check_both.ensures c.in_default.is) in
-    (o.0, o.1, refl)
+least_map-requires c = both_accepted _ _ (accepted_zero c.check_both.ensures c.in_ok-check_both.was)
 
-pub put_map-requires : goal.put_map-requires
-put_map-requires c =
-    let a = accepted_zero c.check_both.ensures c.in_default.is in
-    let most = accepted_most _ (both_accepted _ _ a).0 in
-    (omega (arith, count _ _ a c.counted-n.ensures, most), c.least_map.ensures.size, c.if-output-n.false)
+pub returns-in_default : goal.returns-in_default
+returns-in_default c =
+    let a = accepted_zero c.check_both.ensures c.in_ok-check_both.was in
+    match_not_found _ _ _ a (omega (arith, count _ _ a c.counted-n.ensures, c.if-output-n.false)) c.in_default.ensures
 
-pub returns-then-least_map : goal.returns-then-least_map
-returns-then-least_map c =
-    let a = accepted_zero c.check_both.ensures c.in_default.is in
-    let n = count _ _ a c.counted-n.ensures in
-    match_found _ _ _ a (omega (arith, n, c.if-output-n.false)) _ _ c.least_map.ensures c.if-least_map.true _ n _
-    c.put_map.ensures
+pub slice_bounds-map-end : goal.slice_bounds-map-end
+slice_bounds-map-end c =
+    let a = accepted_zero c.check_both.ensures c.in_ok-check_both.was in
+    omega (arith, few _ _ a c.counted-n.ensures c.in-Some.ensures)
+
+pub slice_bounds-copy_from_slice-end-3 : goal.slice_bounds-copy_from_slice-end-3
+slice_bounds-copy_from_slice-end-3 c =
+    let a = accepted_zero c.check_both.ensures c.in_ok-check_both.was in
+    omega (arith, length-take-le c.counted-n.result.devices c.in-Some.map (few _ _ a c.counted-n.ensures c.in-Some.ensures))
+
+pub copy_from_slice-requires : goal.copy_from_slice-requires
+copy_from_slice-requires c =
+    let a = accepted_zero c.check_both.ensures c.in_ok-check_both.was in
+    let n = c.counted-n.result.devices in
+    omega (
+      arith,
+      length-take-le n c.args.output.now c.if-output-n.false,
+      length-take-le n c.in-Some.map (few _ _ a c.counted-n.ensures c.in-Some.ensures),
+    )
 
 pub returns : goal.returns
 returns c =
-    let a = accepted_zero c.check_both.ensures c.in_default.is in
-    match_not_found _ _ _ a (omega (arith, count _ _ a c.counted-n.ensures, c.if-output-n.false)) _ _ c.least_map.ensures
-    c.if-least_map.false
+    let a = accepted_zero c.check_both.ensures c.in_ok-check_both.was in
+    let n = count _ _ a c.counted-n.ensures in
+    let says = c.in-Some.ensures in
+    match_found _ _ _ a (omega (arith, n, c.if-output-n.false)) _ says _ n _
+    (rw (c.copy_from_slice.ensures.after, length-take-le c.counted-n.result.devices c.in-Some.map (few _ _ a c.counted-n.ensures says)))

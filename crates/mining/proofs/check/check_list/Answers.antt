@@ -1,28 +1,23 @@
 -- `check::check_list` meets its contract. Assumes nothing.
+use borrow.Author.Rules.{rules}
 use Rattle.growth.specs.Settings.{accepted_settings}
-use Rattle.mining.specs.ListCheckLaws.{check_turned_back, given_fine, check_yes, check_no}
+use Rattle.mining.specs.ListCheckLaws.{check_turned_back, given_fine, check_told}
 use Rattle.mining.proofs.check.check_list.Goals as goal
 
-pub returns-in-Refused : goal.returns-in-Refused
-returns-in-Refused c =
+pub returns-in_err-check_given : goal.returns-in_err-check_given
+returns-in_err-check_given c =
     let a = c.args in
-    check_turned_back a.survey.now a.threshold a.limit a.list.now _ _ c.check_given.ensures
-    c.in-Refused.is
+    let told = check_turned_back a.survey.now a.threshold a.limit a.list.now _ c.check_given.ensures c.in_err-check_given.was in
+    search (rules, told)
 
 pub holds-requires : goal.holds-requires
 holds-requires c =
     let a = c.args in
-    let fine = given_fine a.survey.now a.threshold a.limit a.list.now c.check_given.ensures c.in_default.is in
+    let fine = given_fine a.survey.now a.threshold a.limit a.list.now c.check_given.ensures c.in_ok-check_given.was in
     accepted_settings a.survey.now a.threshold a.limit fine.0
-
-pub returns-then-holds : goal.returns-then-holds
-returns-then-holds c =
-    let a = c.args in
-    let fine = given_fine a.survey.now a.threshold a.limit a.list.now c.check_given.ensures c.in_default.is in
-    check_yes a.survey.now a.threshold a.limit a.list.now fine.0 fine.1 c.if-holds.true c.holds.ensures
 
 pub returns : goal.returns
 returns c =
     let a = c.args in
-    let fine = given_fine a.survey.now a.threshold a.limit a.list.now c.check_given.ensures c.in_default.is in
-    check_no a.survey.now a.threshold a.limit a.list.now fine.0 fine.1 c.if-holds.false c.holds.ensures
+    let fine = given_fine a.survey.now a.threshold a.limit a.list.now c.check_given.ensures c.in_ok-check_given.was in
+    check_told a.survey.now a.threshold a.limit a.list.now fine.0 fine.1 c.holds.ensures

@@ -14,9 +14,9 @@ returns-in_default c =
 pub overflow_mul-result : goal.overflow_mul-result
 overflow_mul-result c =
     let low : length c.args.list.now < 2 ^ 64 = search rules in
-    record { fits = omega (arith, (rw c.in-To.is at c.mine_survey.ensures).room, low) }
+    record { fits = omega (arith, (rw c.in-Some.is at c.mine_survey.ensures).room, low) }
 
 pub returns : goal.returns
 returns c =
-    holds_all c.requires c.args.list.now c.in-To.entries (rw c.in-To.is at c.mine_survey.ensures)
+    holds_all c.requires c.args.list.now c.in-Some.entries (rw c.in-Some.is at c.mine_survey.ensures)
     (decides_equal _ _)

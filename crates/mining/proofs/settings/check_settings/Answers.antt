@@ -8,14 +8,16 @@ use Rattle.mining.proofs.settings.check_settings.Goals as goal
 pub returns-then-s-lt-LEAST_DRAWINGS : goal.returns-then-s-lt-LEAST_DRAWINGS
 returns-then-s-lt-LEAST_DRAWINGS c =
     let a = c.args in
-    settings_threshold a.survey.now a.threshold a.limit
-    (⊎_elim (λ w. inl (omega arith)) (λ w. inr (omega (arith, ltb-true))) c.then-s-lt-LEAST_DRAWINGS.either)
+    rw c.from.ensures
+    (settings_threshold a.survey.now a.threshold a.limit
+    (⊎_elim (λ w. inl (omega arith)) (λ w. inr (omega (arith, ltb-true))) c.then-s-lt-LEAST_DRAWINGS.either))
 
 pub returns-then-l-lt1 : goal.returns-then-l-lt1
 returns-then-l-lt1 c =
     let a = c.args in
-    settings_limit a.survey.now a.threshold a.limit (omega arith) (omega (arith, ltb-false))
-    (⊎_elim (λ w. inl (omega arith)) (λ w. inr (omega (arith, ltb-true))) c.then-l-lt1.either)
+    rw c.from-then-l-lt1.ensures
+    (settings_limit a.survey.now a.threshold a.limit (omega arith) (omega (arith, ltb-false))
+    (⊎_elim (λ w. inl (omega arith)) (λ w. inr (omega (arith, ltb-true))) c.then-l-lt1.either))
 
 pub returns : goal.returns
 returns c =

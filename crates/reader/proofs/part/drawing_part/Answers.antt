@@ -4,8 +4,8 @@ use Rattle.graphs.specs.Survey.{drawing_count}
 use Rattle.graphs.specs.AcceptedSurvey.{drawing_part}
 use Rattle.reader.proofs.part.drawing_part.Goals as goal
 
-pub returns-then-d-counted : goal.returns-then-d-counted
-returns-then-d-counted c =
+pub returns : goal.returns
+returns c =
     let below : c.args.d < drawing_count c.args.survey.now = omega arith in
     record {
       bytes = λ h. drawing_part c.args.survey.now c.args.d;

@@ -1,27 +1,17 @@
--- `reading::place_on` meets its contract. The invariant: what is left of the path says what all of it says. Assumes nothing.
-use Prim.Native.Nat.{suc, ◌-◌}
-use mathlib.Core.Path.{◌≡◌}
-use native.Mathlib.Omega.{arith}
-use borrow.Author.Rules.{rules}
+-- `reading::place_on` meets its contract: the last place where the device stands, or none. Assumes nothing.
+use Rattle.std.proofs.Common.{◌≡◌, ℕ, refl, arith, Option, Some, None}
+use Rattle.std.proofs.lemmas.Grind.{common_steps}
 use Rattle.readings.specs.Readings.{PlaceSays}
-use Rattle.readings.specs.PathLaws.{sought_lower, sought_found, sought_none}
+use Rattle.readings.specs.PathLaws.{place_last, place_missing}
 use Rattle.readings.proofs.reading.place_on.Goals as goal
-
-pub returns-then-path-left : goal.returns-then-path-left
-unfolding PlaceSays
-returns-then-path-left c =
-    let l = c.loop-left in
-    let a = c.args in
-    let e : l.left ≡ suc (l.left - 1) = omega arith in
-    sought_found a.count a.path.now a.device (l.left - 1) (omega arith) (rw e at l.invariant.1) c.if-path-left.true
-
-pub loop-left-preserved : goal.loop-left-preserved
-loop-left-preserved c =
-    let l = c.loop-left in
-    let a = c.args in
-    let e : l.left ≡ suc (l.left - 1) = omega arith in
-    (search rules, sought_lower a.count a.path.now a.device (l.left - 1) (rw e at l.invariant.1) c.if-path-left.false)
 
 pub returns : goal.returns
 unfolding PlaceSays
-returns c = sought_none _ _ _ _ c.loop-left-test.false c.loop-left.invariant.1
+returns c = told c.rposition.result refl
+  where
+    told : (r : Option ℕ) → c.rposition.result ≡ r → PlaceSays c.args.count c.args.path.now c.args.device r
+    told None e =
+        place_missing c.args.count c.args.path.now c.args.device (omega arith) (λ k l s. grind (arith, common_steps))
+    told (Some q) e =
+        place_last c.args.count c.args.path.now c.args.device (omega arith) q (grind (arith, common_steps)) (grind (arith, common_steps))
+        (λ k l g s. grind (arith, common_steps))

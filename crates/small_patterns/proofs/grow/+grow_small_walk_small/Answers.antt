@@ -12,7 +12,7 @@ use Rattle.small_patterns.specs.SmallGrowth.{
   small_next,
 }
 use Rattle.small_patterns.proofs.grow.+grow_small_walk_small.Goals as goal
-use Rattle.small_patterns.proofs.grow.+grow_small_walk_small.Goals.{walk_small-then-try_record+in-To, walk_small-else-try_record}
+use Rattle.small_patterns.proofs.grow.+grow_small_walk_small.Goals.{walk_small-then-try_record+in_ok-written, walk_small-else-try_record}
 
 -- the code's own entry found no room, or stands there
 pub grow_small-returns-then-not-write_next : goal.grow_small-returns-then-not-write_next
@@ -47,18 +47,19 @@ walk_small-grow_small-requires t c = (
       c.try_record.ensures c.if-try_record.true c.widened-wider.ensures,
 )
 
-pub walk_small-returns-in_default : goal.walk_small-returns-in_default
-walk_small-returns-in_default t c =
-    small_fills c.requires c.loop-t.invariant.1 (omega (arith, c.loop-t-test.true, c.loop-t.invariant.0)) c.nth_record-next.ensures
-    c.try_record.ensures c.if-try_record.true c.in_default.ensures
+pub walk_small-returns-in_err-written : goal.walk_small-returns-in_err-written
+walk_small-returns-in_err-written t c =
+    rw c.from_residual.ensures
+    (small_fills c.requires c.loop-t.invariant.1 (omega (arith, c.loop-t-test.true, c.loop-t.invariant.0)) c.nth_record-next.ensures
+    c.try_record.ensures c.if-try_record.true c.in_err-written.ensures)
 
 pub walk_small-loop-t-preserved : goal.walk_small-loop-t-preserved
 walk_small-loop-t-preserved t c =
     elim c.if-try_record.branch [
-      | walk_small-then-try_record+in-To w ↦ rw (w.code-is, w.output-is, w.written-is) (
+      | walk_small-then-try_record+in_ok-written w ↦ rw (w.code-is, w.output-is, w.written-is) (
         c.loop-t.invariant.0,
         small_next c.requires c.loop-t.invariant.1 (omega (arith, c.loop-t-test.true, c.loop-t.invariant.0)) c.nth_record-next.ensures
-            c.try_record.ensures w.if-try_record.true w.in-To.ensures,
+            c.try_record.ensures w.if-try_record.true w.in_ok-written.ensures,
       )
       | walk_small-else-try_record w ↦ rw (w.code-is, w.output-is, w.written-is) (
         c.loop-t.invariant.0,

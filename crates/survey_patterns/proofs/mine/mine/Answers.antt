@@ -4,7 +4,7 @@ use native.Mathlib.Omega.{arith}
 use Rattle.growth.specs.Page.{page}
 use Rattle.survey_patterns.specs.SurveyMinedLaws.{mine_starts, mine_skips, mine_ends}
 use Rattle.survey_patterns.proofs.mine.mine.Goals as goal
-use Rattle.survey_patterns.proofs.mine.mine.Goals.{then-occurs-kind+in-To, else-occurs-kind}
+use Rattle.survey_patterns.proofs.mine.mine.Goals.{then-occurs-kind+in_ok-written, else-occurs-kind}
 
 pub loop-kind-init : goal.loop-kind-init
 loop-kind-init c =
@@ -15,10 +15,10 @@ loop-kind-init c =
       refl,
     )
 
-pub returns-in_default : goal.returns-in_default
-returns-in_default c =
+pub returns-in_err-written : goal.returns-in_err-written
+returns-in_err-written c =
     let a = c.args in
-    rw c.in_default.is at (c.mine_kind.ensures.after (page a.settings.checking a.given.now a.output.now) c.loop-kind.invariant.1)
+    rw c.from_residual.ensures (c.in_err-written.ensures.after (page a.settings.checking a.given.now a.output.now) c.loop-kind.invariant.1)
 
 pub loop-kind-preserved : goal.loop-kind-preserved
 loop-kind-preserved c =
@@ -26,10 +26,10 @@ loop-kind-preserved c =
     let l = c.loop-kind in
     let same = c.if-occurs-kind.auto.output ∙ l.invariant.3 in
     elim c.if-occurs-kind.branch [
-      | then-occurs-kind+in-To w ↦ (
+      | then-occurs-kind+in_ok-written w ↦ (
         l.invariant.0,
         rw (w.cells-is, w.seen-is, w.list-is, w.output-is, w.written-is)
-            (rw w.in-To.is at (w.mine_kind.ensures.after (page a.settings.checking a.given.now a.output.now) l.invariant.1)),
+            (w.in_ok-written.ensures.after (page a.settings.checking a.given.now a.output.now) l.invariant.1),
         rw (w.kept-is, w.ends-is) w.mine_kind.ensures.sized,
         same,
       )

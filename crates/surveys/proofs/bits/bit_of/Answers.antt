@@ -6,12 +6,6 @@ use Rattle.surveys.proofs.bits.bit_of.Goals as goal
 pub returns-then-l-eq0 : goal.returns-then-l-eq0
 returns-then-l-eq0 c = no_label_bit c.args.rank.now c.args.l c.if-l-eq0.true
 
-pub overflow_cast-result-2 : goal.overflow_cast-result-2
-overflow_cast-result-2 c = omega (arith, c.requires.1 (omega arith))
-
-pub overflow_shl-result : goal.overflow_shl-result
-overflow_shl-result c = c.requires.1 (omega arith)
-
 pub returns : goal.returns
 returns c =
     shifted_label_bit c.args.rank.now c.args.l (omega arith) (c.requires.1 (omega arith))

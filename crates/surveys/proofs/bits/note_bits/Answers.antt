@@ -1,19 +1,10 @@
 -- `bits::note_bits` meets its contract. The invariant: the tables are as they were, and the bits of the first d drawings are there. Assumes
 -- nothing.
-use mathlib.Core.Path.{◌≡◌}
 use native.Mathlib.Omega.{arith}
 use borrow.Author.Rules.{rules}
-use Rattle.graphs.specs.Survey.{drawing_count}
 use Rattle.graphs.specs.AcceptedSurvey.{accepted_survey}
-use Rattle.walks.specs.LabelBitLaws.{cell_has_bit, bits_none, bits_leave_tables, bits_next}
+use Rattle.walks.specs.LabelBitLaws.{cell_has_bit, bits_leave_tables, bits_next}
 use Rattle.surveys.proofs.bits.note_bits.Goals as goal
-
-pub returns-then-n-gt-FEW : goal.returns-then-n-gt-FEW
-returns-then-n-gt-FEW c = (c.requires.1, λ few. absurd (omega arith))
-
-pub loop-d-init : goal.loop-d-init
-loop-d-init c =
-    (c.counted-drawings.ensures, search rules, search rules, c.requires.1, bits_none c.args.labels.now c.args.rank.now)
 
 pub bits_of-bits-requires : goal.bits_of-bits-requires
 bits_of-bits-requires c =
@@ -41,9 +32,3 @@ loop-d-preserved c =
       rw c.put_table.ensures (bits_leave_tables l.d (omega arith) l.invariant.3 b most),
       rw c.put_table.ensures (bits_next l.d (omega arith) l.invariant.3 b l.invariant.4),
     )
-
-pub returns : goal.returns
-returns c =
-    let l = c.loop-d in
-    let e : l.d ≡ drawing_count c.args.survey.now = omega arith in
-    (l.invariant.3, λ few. rw e at l.invariant.4)

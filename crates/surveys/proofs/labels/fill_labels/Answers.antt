@@ -4,15 +4,11 @@ use native.Mathlib.Omega.{arith}
 use lib.ListN.{length}
 use borrow.Author.Rules.{rules}
 use Rattle.laws.specs.Rows.{row}
-use Rattle.graphs.specs.Survey.{drawing_count}
 use Rattle.graphs.specs.AcceptedSurvey.{drawing_part, accepted_survey}
 use Rattle.walks.specs.LocalPlaces.{labels_low}
 use Rattle.walks.specs.PreparedLaws.{labelled_section}
-use Rattle.walks.specs.DrawingTableLaws.{tables_none, tables_next}
+use Rattle.walks.specs.DrawingTableLaws.{tables_next}
 use Rattle.surveys.proofs.labels.fill_labels.Goals as goal
-
-pub loop-d-init : goal.loop-d-init
-loop-d-init c = (c.counted-drawings.ensures, search rules, tables_none c.args.survey.now c.args.labels.now c.requires.1)
 
 pub labels_of_drawing-table-requires : goal.labels_of_drawing-table-requires
 labels_of_drawing-table-requires c =
@@ -38,9 +34,3 @@ loop-d-preserved c =
       tables_next c.args.survey.now l.d (omega (arith, (accepted_survey c.args.survey.now c.requires.0).most))
           (rw (drawing_part c.args.survey.now l.d) at t.ensures) c.put_drawing.ensures l.invariant.2,
     )
-
-pub returns : goal.returns
-returns c =
-    let l = c.loop-d in
-    let e : l.d ≡ drawing_count c.args.survey.now = omega arith in
-    rw e at l.invariant.2

@@ -14,12 +14,14 @@ pub loop-k-init : goal.loop-k-init
 loop-k-init c = table_start _ (code_section (known _ c.type_inv.code c.requires))
 
 pub put_cable-requires : goal.put_cable-requires
-put_cable-requires c = record_low (known _ c.type_inv.code c.requires) c.loop-k.k (omega arith) c.at-r.ensures
+put_cable-requires c =
+    rw (c.from.ensures, c.from-in-loop-k.ensures, c.from-in-loop-k-2.ensures)
+    (record_low (known _ c.type_inv.code c.requires) c.loop-k.k (omega arith) c.at-r.ensures)
 
 pub loop-k-preserved : goal.loop-k-preserved
 unfolding cable_of
 loop-k-preserved c =
-    rw c.put_cable.ensures
+    rw (c.put_cable.ensures, c.from.ensures, c.from-in-loop-k.ensures, c.from-in-loop-k-2.ensures)
     (code_turn (known _ c.type_inv.code c.requires) c.loop-k.k (omega arith) c.at-r.ensures c.loop-k.invariant)
 
 pub returns : goal.returns

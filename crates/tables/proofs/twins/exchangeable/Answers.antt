@@ -1,44 +1,31 @@
--- `twins::exchangeable` meets its contract. The invariant: every third device below w sees both alike. Assumes nothing.
-use mathlib.Core.Path.{sym, ◌∙◌}
-use native.Mathlib.Omega.{arith}
-use native.Mathlib.Nat.{not-suc-le-zero}
-use borrow.Author.Count.{below_more}
-use borrow.Author.Rules.{rules}
-use Rattle.laws.specs.Decides.{decides_true, decides_false}
-use Rattle.codes.specs.Twins.{Alike}
+-- `twins::exchangeable` meets its contract: every third device sees both alike, and they see each other alike. Assumes nothing.
+use Rattle.std.proofs.Common.{◌≡◌, ℕ, ◌≤◌, ◌<◌, sym, ◌∙◌, arith, rules, eqb-true}
+use Rattle.std.proofs.lemmas.Bool.{false≢true}
+use Rattle.laws.specs.Decides.{Decides}
+use Rattle.codes.specs.BranchState.{label_at}
+use Rattle.codes.specs.Twins.{Alike, Exchangeable}
+use Rattle.tables.specs.RangeTests.{decides_all}
 use Rattle.tables.proofs.twins.exchangeable.Goals as goal
+use Rattle.tables.proofs.twins.exchangeable.Goals.{After-all, then-alike, else-alike}
 
-pub returns-then-not-alike : goal.returns-then-not-alike
-returns-then-not-alike c =
-    decides_false (λ x. c.alike.ensures.fails c.if-not-alike.true (x.apart c.args.first c.requires.2))
+between : (c : After-all) → let a = c.args in label_at a.table.now a.u a.v ≡ label_at a.table.now a.v a.u
+between c =
+    elim c.if-alike.branch [
+      | then-alike w ↦ sym w.label.ensures ∙ eqb-true _ _ (sym w.value-is ∙ c.if-label.true) ∙ w.label-then-alike.ensures
+      | else-alike w ↦ absurd (false≢true (sym w.if-alike.false ∙ sym w.value-is ∙ c.if-label.true))
+    ]
+
+told :
+    (c : After-all)
+    → let a = c.args in
+    Decides c.all.result ((w : ℕ) → 0 ≤ w → w < 10 → Alike a.table.now a.u a.v w) → Decides c.all.result (Exchangeable a.table.now a.u a.v)
+told c d =
+    record {
+      holds = λ e.
+          record { u_low = c.requires.0; v_low = c.requires.1; apart = λ w h. d.holds e w (omega arith) h; between = between c };
+      fails = λ e x. d.fails e (λ w g h. x.apart w h);
+    }
 
 pub returns-then-label : goal.returns-then-label
 returns-then-label c =
-    decides_false (λ x. c.if-label.true (c.label.ensures ∙ x.between ∙ sym c.label-2.ensures))
-
-pub loop-w-init : goal.loop-w-init
-loop-w-init c = (search rules, λ x h. absurd (not-suc-le-zero h))
-
-pub returns-then-not-alike-2 : goal.returns-then-not-alike-2
-returns-then-not-alike-2 c =
-    decides_false (λ x. c.alike-in-loop-w.ensures.fails c.if-not-alike-2.true (x.apart c.loop-w.w (omega arith)))
-
-pub loop-w-preserved : goal.loop-w-preserved
-loop-w-preserved c =
-    let l = c.loop-w in
-    let a = c.args in (
-      search rules,
-      below_more (Alike a.table.now a.u a.v) l.w l.invariant.1 (c.alike-in-loop-w.ensures.holds c.if-not-alike-2.false),
-    )
-
-pub returns : goal.returns
-returns c =
-    let l = c.loop-w in
-    let p = c.requires in
-    decides_true
-    (record {
-      u_low = p.0;
-      v_low = p.1;
-      apart = λ w h. l.invariant.1 w (omega arith);
-      between = sym c.label.ensures ∙ c.if-label.false ∙ c.label-2.ensures;
-    })
+    told c (decides_all (Alike c.args.table.now c.args.u c.args.v) (λ x b q k. search rules) c.all.ensures.ran)

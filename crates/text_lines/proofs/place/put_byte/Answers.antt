@@ -1,19 +1,15 @@
 -- `place::put_byte` meets its contract, case by case. Assumes nothing.
-use Rattle.text_lines.specs.WritingLaws.{wrote_past, wrote_full, wrote_byte, wrote_outside}
+use Rattle.text_lines.specs.WritingLaws.{wrote_full, wrote_byte, wrote_outside}
 use Rattle.text_lines.proofs.place.put_byte.Goals as goal
 use Rattle.text_lines.proofs.place.put_byte.Goals.{then-at-text, else-at-text}
 
-pub returns-in_default : goal.returns-in_default
-returns-in_default c = rw c.in_default.is (wrote_past _ _)
-
 pub returns-then-room-at : goal.returns-then-room-at
-returns-then-room-at c = rw c.in-At.is (wrote_full _ _ _ _ c.if-room-at.true)
+returns-then-room-at c = wrote_full _ _ _ _ c.if-room-at.true
 
 pub returns : goal.returns
 returns c =
     let room = c.if-room-at.false in
-    rw c.in-At.is
-    (elim c.if-at-text.branch [
+    elim c.if-at-text.branch [
       | then-at-text w ↦ rw w.text-is (wrote_byte _ _ _ _ room)
       | else-at-text w ↦ rw w.text-is (wrote_outside _ _ _ _ room w.if-at-text.false)
-    ])
+    ]

@@ -4,4 +4,4 @@ use Rattle.records.proofs.cable.Cable.within.Goals as goal
 
 pub returns : goal.returns
 returns c =
-    rw (c.wide.ensures, c.wide-2.ensures, c.wide-3.ensures) (cable_read _ _)
+    rw (c.from.ensures, c.from-2.ensures, c.from-3.ensures) (cable_read _ _)

@@ -1,0 +1,2 @@
+-- What `map` and `map_err` make of an answer.
+pub mod Mapped

@@ -1,0 +1,3 @@
+-- Definitions.
+pub mod Calls
+pub mod CallAnswers

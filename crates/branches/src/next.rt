@@ -1,6 +1,6 @@
 // The next record of a code: the first one, along a cable, and the one that an extension stands for. The kind of i is that of its
 // device in the drawing.
-ghost use Rattle.std.specs.Prelude.{◌≡◌, Bool, List, ℕ, ◌<◌, ◌≤◌, Some};
+ghost use Rattle.std.specs.Prelude.{◌≡◌, Bool, List, ℕ, ◌<◌, ◌≤◌};
 ghost use Rattle.graphs.specs.Drawing.{devices, kind, drawing_in, drawing_refusal};
 ghost use Rattle.code_records.specs.Records.{as_rec};
 ghost use Rattle.branches.specs.Branches.{in_place};
@@ -72,20 +72,30 @@ fn edge_record(path: &[u8; Drawing::MOST_DEVICES], given: usize, q: usize, l: u3
     }
 }
 
-// The record that an extension stands for.
+// The record that an extension stands for. A branch that leaves a cable unlisted goes on, so that the record made up for nothing
+// is never compared.
 pub fn next_record(
     drawing: &[u8],
     numbers: &[u8; Drawing::MOST_DEVICES],
     path: &[u8; Drawing::MOST_DEVICES],
     count: usize,
     given: usize,
-    found: Extension,
+    found: Option<Extension>,
 ) -> Record
-    requires { MakesRecord drawing.now numbers.now path.now count given (Some found) }
+    requires { MakesRecord drawing.now numbers.now path.now count given found }
     ensures { (used : List Bool) (low : ℕ) → as_rec result ≡ found_record (drawing_in drawing.now)
-        (in_place numbers.now used path.now count given low) (Some found) }
+        (in_place numbers.now used path.now count given low) found }
 {
-    match found {
+    let Some(extension) = found else {
+        return Record {
+            i: 0,
+            j: 0,
+            ki: 0,
+            c: 0,
+            kj: 0,
+        };
+    };
+    match extension {
         Extension::Chord(q, l) => {
             let end = count - 1;
             chord_record(

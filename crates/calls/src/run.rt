@@ -36,23 +36,22 @@ pub fn run_call(request: ListedCall<'_>) {
         second,
         ..
     } = request;
+    let call = request.call();
     let threshold = request.threshold();
     let limit = request.limit();
-    match Call::try_from(request.call()) {
-        Ok(Call::Question(question)) => print_answer(name, ask(question, first, second)),
+    match Call::try_from(call) {
+        Ok(Call::Question(_)) => print_answer(name, ask(call, first, second)),
         Ok(Call::Fetch) => {
             io::write_all(1, name);
             fetch_listed(first, second);
         }
-        Ok(Call::Writing(writing)) => {
-            run_lent(request, |lent| write_one(writing, first, second, lent))
-        }
-        Ok(Call::Catalogue(catalogue)) => run_lent(request, |lent| {
-            write_entries(catalogue, first, threshold, limit, lent)
+        Ok(Call::Writing(_)) => run_lent(request, |lent| write_one(call, first, second, lent)),
+        Ok(Call::Catalogue(_)) => run_lent(request, |lent| {
+            write_entries(call, first, threshold, limit, lent)
         }),
         Ok(Call::Book) => run_lent(request, |lent| write_kinds(first, limit, lent)),
-        Ok(Call::ListCheck(check)) => {
-            print_answer(name, ask_list(check, first, threshold, limit, second))
+        Ok(Call::ListCheck(_)) => {
+            print_answer(name, ask_list(call, first, threshold, limit, second))
         }
         Err(NoSuchCall) => print_answer(name, Ok(Answer::NO_CALL)),
     }

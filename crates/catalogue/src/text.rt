@@ -27,5 +27,5 @@ pub fn whole_text(
 ) -> usize
     ensures { ProgramText survey.now result text.old text.new }
 {
-    usual_text(survey, entries, text).unwrap()
+    usual_text(survey, entries, text).unwrap_or(0)
 }

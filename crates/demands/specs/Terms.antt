@@ -66,7 +66,7 @@ pub record SurveyRefused (bs : List ℕ) (r : Result ℕ Fault) : Type 0 where
   pub counted : (bytes_refusal bs).number ≡ 0 → r ≡ Ok (length bs / 73)
 
 -- OF OPENING AND FETCHING: opening checks the length place alone; where that refuses, each fetch is 14; else a fetch is 14 exactly if d
--- is not below the number of drawings, and a refused fetch gives an empty part
+-- is not below the number of drawings, and a refused fetch gives no byte
 pub record ReaderRefused (bs : Bor (List ℕ)) (r : Opened) : Type 0 where
   pub one : checked_number r.checked ≡ length_refusal bs.now
   pub no_drawings : 0 < length_refusal bs.now → (d : ℕ) (f : Fetched) → Fetches r.reader d f → FetchGives f 14 []

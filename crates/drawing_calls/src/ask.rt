@@ -10,7 +10,7 @@ use matching::same::same;
 use records::refusal::Fault;
 use std::cmp::Ordering;
 use transcript::answer::{Answer, checked};
-use transcript::call::Question;
+use transcript::call::{Call, Question};
 
 fn verdict(verdict: Verdict) -> Answer {
     Answer {
@@ -33,7 +33,11 @@ fn compared(comparison: Comparison) -> Answer {
     }
 }
 
-pub fn ask(question: Question, first: &[u8], second: &[u8]) -> Result<Answer, Fault> {
+// By the number of the call; of any other number the answer is that of no call.
+pub fn ask(call: u32, first: &[u8], second: &[u8]) -> Result<Answer, Fault> {
+    let Ok(Call::Question(question)) = Call::try_from(call) else {
+        return Ok(Answer::NO_CALL);
+    };
     let answer = match question {
         Question::CheckDrawing => checked(check_drawing(first))?,
         Question::CheckSurvey => Answer::counted(check_survey(first)?),

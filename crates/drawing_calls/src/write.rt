@@ -4,15 +4,18 @@ use decoding::decode::decode;
 use matching::map::match_drawing;
 use records::refusal::Fault;
 use transcript::answer::Answer;
-use transcript::call::Writing;
+use transcript::call::{Call, Writing};
 
-// How many bytes are written; none where the drawing is not contained.
+// How many bytes are written; none where the drawing is not contained. By the number of the call, as `ask`.
 pub fn write_one(
-    writing: Writing,
+    call: u32,
     first: &[u8],
     second: &[u8],
     output: &mut [u8],
 ) -> Result<Answer, Fault> {
+    let Ok(Call::Writing(writing)) = Call::try_from(call) else {
+        return Ok(Answer::NO_CALL);
+    };
     let written = match writing {
         Writing::CodeDrawing => code_drawing(first, output)?,
         Writing::Decode => decode(first, output)?,

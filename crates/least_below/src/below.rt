@@ -80,8 +80,8 @@ fn search_below(
 }
 
 // The same where the best code has no record t, or something that goes on comes before it: it is cut to t records, and the
-// least record that goes on is its next; there is one, since a cable is left. A backward one leads to one branch, which has
-// the same numbers.
+// least record that goes on is its next. A backward one leads to one branch, which has the same numbers. None never comes: a
+// cable is left.
 #[cycle(search_anew_search_below_search_edges)]
 fn search_anew(
     drawing: &[u8],
@@ -105,10 +105,13 @@ fn search_anew(
         × SameArrays numbers.old numbers.new used.old used.new
         path.old path.new × (length best.new ≡ 100) }
 {
-    let found = least_extension(table, numbers, used, path, count, low).unwrap();
+    let found = least_extension(table, numbers, used, path, count, low);
     let next = next_record(drawing, numbers, path, count, given, found);
     put_record(best, t, next);
-    match found {
+    let Some(extension) = found else {
+        return t + 1;
+    };
+    match extension {
         Extension::Chord(_, _) => search_below(
             drawing,
             table,

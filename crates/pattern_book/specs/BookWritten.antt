@@ -46,8 +46,8 @@ module _ {g : BookBounds} {code : List ℕ} (long : length code ≡ 100) where
         wide = sym (ap width (no_records code));
       }
 
-  pub book_walks : (out : List ℕ) → CanWalkSmall g code 0 1 out 0
-  book_walks out = record { held = held; less = g.limit_some; room = omega arith }
+  pub book_walks : (some : 1 ≤ g.limit) (out : List ℕ) → CanWalkSmall g code 0 1 out 0
+  book_walks some out = record { held = held; less = some; room = omega arith }
 
   -- AND HAS WRITTEN all that goes on from there
   module _ {out z now : List ℕ} {r : Option ℕ} (w : SmallWalked g code 0 1 out 0 r now z) where

@@ -26,6 +26,7 @@ fn one_to_three(n: u32) -> bool
 
 // Writes the book of settings within their bounds. The code grows in one array.
 fn write_small(bounds: BookBounds, output: &mut [u8]) -> Result<usize, Fault>
+    requires { 1 ≤ bounds.limit }
     ensures { ListWritten (Asked bounds) unsupported bounds.limit output.old result output.new }
 {
     let mut code = [0; Code::BYTES];

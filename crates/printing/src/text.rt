@@ -16,7 +16,7 @@ fn put_lines(text: &mut [u8], place: Place, entries: &[[u8; Entry::BYTES]]) -> O
 {
     let mut next = place;
     for entry in entries {
-        next = put_line(text, next, entry)?;
+        next = put_line(text, Some(next), entry)?;
     }
     Some(next)
 }
@@ -28,8 +28,8 @@ fn put_catalogue(text: &mut [u8], place: Place, entries: &[u8], n: usize) -> Opt
     let (lent, _) = entries.as_chunks();
     let n = n.min(lent.len());
     let next = put_lines(text, place, &lent[..n])?;
-    let next = put_number(text, next, n)?;
-    put_word(text, next, b" patterns\n")
+    let next = put_number(text, Some(next), n)?;
+    put_word(text, Some(next), b" patterns\n")
 }
 
 // The drawing at fault, for the refusals of a drawing.
@@ -39,8 +39,8 @@ fn put_drawing(text: &mut [u8], place: Place, number: usize, drawing: usize) -> 
     if number < 2 || 8 < number {
         return Some(place);
     }
-    let next = put_word(text, place, b" drawing ")?;
-    put_number(text, next, drawing)
+    let next = put_word(text, Some(place), b" drawing ")?;
+    put_number(text, Some(next), drawing)
 }
 
 // The line of a refusal.
@@ -48,10 +48,10 @@ fn put_refusal(text: &mut [u8], place: Place, fault: Fault) -> Option<Place>
     ensures { Wrote text.old (Some place) (refusal_text (number_of fault.refusal) fault.drawing) result text.new }
 {
     let number = fault.refusal.number() as usize;
-    let next = put_word(text, place, b"refused ")?;
-    let next = put_number(text, next, number)?;
+    let next = put_word(text, Some(place), b"refused ")?;
+    let next = put_number(text, Some(next), number)?;
     let next = put_drawing(text, next, number, fault.drawing)?;
-    put_byte(text, next, b'\n')
+    put_byte(text, Some(next), b'\n')
 }
 
 // The one or the other.

@@ -24,7 +24,7 @@ fn try_record(bounds: BookBounds, code: &mut [u8; Code::BYTES], cables: usize, n
     ensures { RecordTried bounds code.old cables (as_rec next) result code.new }
 {
     put_record(code, cables, next);
-    if !within(bounds, next) {
+    if !within(bounds.devices, bounds.cables, next) {
         return false;
     }
     least_so_far(code, cables + 1)

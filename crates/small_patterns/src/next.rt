@@ -17,7 +17,6 @@ pub struct BookBounds {
     pub limit: usize,
     ghost devices_few: { devices ≤ 3 },
     ghost cables_few: { cables ≤ 3 },
-    ghost limit_some: { 1 ≤ limit },
     ghost limit_few: { limit ≤ 3 },
 }
 
@@ -74,11 +73,9 @@ pub fn widened(devices: usize, next: Record) -> usize
     }
 }
 
-// Whether the kinds of a record are within the bounds.
-pub fn within(bounds: BookBounds, next: Record) -> bool
-    ensures { Decides result (SmallLabels bounds.devices bounds.cables (as_rec next)) }
+// Whether the kinds of a record are within so many kinds of devices and of cables. These are any numbers of kinds, also more than three.
+pub fn within(devices: usize, cables: usize, next: Record) -> bool
+    ensures { Decides result (SmallLabels devices cables (as_rec next)) }
 {
-    usize::from(next.ki) < bounds.devices
-        && usize::from(next.c) < bounds.cables
-        && usize::from(next.kj) < bounds.devices
+    usize::from(next.ki) < devices && usize::from(next.c) < cables && usize::from(next.kj) < devices
 }

@@ -2,15 +2,19 @@
 use mining::catalogue::{usual_catalogue, write_catalogue};
 use records::refusal::Fault;
 use transcript::answer::Answer;
-use transcript::call::CatalogueCall;
+use transcript::call::{Call, CatalogueCall};
 
+// By the number of the call; of any other number the answer is that of no call.
 pub fn write_entries(
-    catalogue: CatalogueCall,
+    call: u32,
     survey: &[u8],
     threshold: u32,
     limit: u32,
     output: &mut [u8],
 ) -> Result<Answer, Fault> {
+    let Ok(Call::Catalogue(catalogue)) = Call::try_from(call) else {
+        return Ok(Answer::NO_CALL);
+    };
     let entries = match catalogue {
         CatalogueCall::Asked => write_catalogue(survey, threshold, limit, output)?,
         CatalogueCall::Usual => usual_catalogue(survey, output)?,

@@ -1,12 +1,13 @@
 -- Laws of the answer of a read: case by case, as the program tests it; and that what is read grows and stays within 2,409 bytes.
 -- Assumes nothing.
 use Rattle.std.proofs.Math.Path.{◌≡◌, refl}
-use Rattle.std.specs.Prelude.{Bool, true, false, cond, T, ltb, ℤ, pos, negsuc, nat_abs}
+use Rattle.std.specs.Prelude.{Bool, true, false, cond, T, ltb, ℤ, pos, negsuc, nat_abs, Result, Ok, Err, IfOk, IfErr}
 use Prim.Native.Nat.{ℕ, zero, suc, ◌+◌, ◌-◌, ◌≤◌, ◌<◌}
-use Rattle.std.proofs.Common.{arith}
+use Rattle.std.proofs.Common.{sym, arith}
 use Rattle.std.specs.Int.Signed.{lt_z, non_neg}
-use borrow.Author.Tests.{lt-ltb, le-ltb, ltb-true}
-use Rattle.survey_input.specs.ReadAnswers.{Turn, More, All, Failed, after_read, Moved}
+use borrow.Author.Tests.{lt-ltb, le-ltb, ltb-true, ltb-false}
+use Rattle.survey_input.specs.declared.input.Turn.TheVariants.{More, All, Failed}
+use Rattle.survey_input.specs.ReadAnswers.{after_read, Moved}
 
 -- CASE BY CASE
 pub read_not_failed : (z : ℤ) → lt_z z (pos 0) ≡ false → T (non_neg z)
@@ -57,3 +58,34 @@ unfolding after_read
 all_read n (negsuc k) m h g e = absurd (let x : ◌≡◌ {A = ℕ} 0 1 = cc in omega arith)
 all_read n (pos zero) m h g e = let f : n ≡ m = cc in omega arith
 all_read n (pos (suc k)) m h g e = omega (arith, last_all (ltb (n + suc k) 2409) n k m e)
+
+-- WHAT CAME, of an answer that is a number of bytes or a failure: so many bytes, where more is to be read
+more_is : (x : Bool) (n k m : ℕ) → cond x (More (n + k)) (All (n + k)) ≡ More m → n + k ≡ m
+more_is true n k m e = cc
+more_is false n k m e = absurd (let x : ◌≡◌ {A = ℕ} 0 1 = cc in omega arith)
+
+all_is : (x : Bool) (n k m : ℕ) → ltb (n + k) 2409 ≡ x → cond x (More (n + k)) (All (n + k)) ≡ All m → (n + k ≡ m) × (2409 ≤ m)
+all_is true n k m t e = absurd (let x : ◌≡◌ {A = ℕ} 0 1 = cc in omega arith)
+all_is false n k m t e = let f : n + k ≡ m = cc in (f, omega (arith, ltb-false (n + k) 2409 t))
+
+module _ {E : Type 0} (n m : ℕ) where
+  pub more_came :
+      (r : Result ℕ E) → IfOk r (λ k. More m ≡ after_read n (pos k)) → IfErr r (λ e. More m ≡ after_read n (negsuc 0))
+      → (k : ℕ) × ((r ≡ Ok k) × (n + k ≡ m) × (0 < k) × (m < 2409))
+  unfolding after_read
+  more_came (Err e) a b = absurd (let x : ◌≡◌ {A = ℕ} 0 1 = cc b in omega arith)
+  more_came (Ok zero) a b = absurd (let x : ◌≡◌ {A = ℕ} 0 1 = cc a in omega arith)
+  more_came (Ok (suc k)) a b =
+      let is = more_is (ltb (n + suc k) 2409) n (suc k) m (sym a) in
+      (suc k, (refl, is, omega arith, (more_read n (pos (suc k)) m (sym a)).1))
+
+  -- and none, at the end, or as many as there was room for
+  pub all_came :
+      (r : Result ℕ E) → IfOk r (λ k. All m ≡ after_read n (pos k)) → IfErr r (λ e. All m ≡ after_read n (negsuc 0))
+      → (k : ℕ) × ((r ≡ Ok k) × (n + k ≡ m) × (m < 2409 → k ≡ 0))
+  unfolding after_read
+  all_came (Err e) a b = absurd (let x : ◌≡◌ {A = ℕ} 0 1 = cc b in omega arith)
+  all_came (Ok zero) a b = (zero, (refl, (let f : m ≡ n = cc a in omega (arith, f)), λ h. refl))
+  all_came (Ok (suc k)) a b =
+      let is = all_is (ltb (n + suc k) 2409) n (suc k) m refl (sym a) in
+      (suc k, (refl, is.0, λ h. absurd (omega (arith, is.1))))

@@ -1,12 +1,8 @@
 -- What the answer of one read means where it is a number, as the system's own call gives it: how a reading to the end goes by it, turn by turn.
 -- Assumes nothing: these are definitions.
 use Rattle.std.specs.Prelude.{◌≡◌, cond, ℕ, zero, suc, ◌+◌, ◌≤◌, ltb, ℤ, pos, negsuc}
-
--- after a read: more is to be read, or all is, with so many bytes read so far; or it failed
-pub data Turn : Type 0 where
-  More : ℕ → Turn
-  All : ℕ → Turn
-  Failed : Turn
+use Rattle.survey_input.specs.declared.input.Turn.{Turn}
+use Rattle.survey_input.specs.declared.input.Turn.TheVariants.{More, All, Failed}
 
 -- AFTER A READ, with n bytes read before it: -1 is a failure and never the end of the input, which is 0; else so many bytes
 -- came, and more is to be read until there are 2,409

@@ -13,8 +13,8 @@ fn put_field(text: &mut [u8], place: Place, mark: u8, row: &[u8], k: usize) -> O
     requires { k < length row.now }
     ensures { Wrote text.old (Some place) (mark ∷ decimal (get_or row.now k 0)) result text.new }
 {
-    let next = put_byte(text, place, mark)?;
-    put_number(text, next, usize::from(row[k]))
+    let next = put_byte(text, Some(place), mark)?;
+    put_number(text, Some(next), usize::from(row[k]))
 }
 
 // A blank and a record.
@@ -40,14 +40,14 @@ fn put_records(text: &mut [u8], place: Place, records: &[[u8; Code::RECORD_BYTES
 }
 
 // The line of an entry. Whatever it says, it has no more records than it has bytes for.
-pub fn put_line(text: &mut [u8], place: Place, entry: &[u8; Entry::BYTES]) -> Option<Place>
-    ensures { Wrote text.old (Some place) (entry_text (entry_shown entry.now)) result text.new }
+pub fn put_line(text: &mut [u8], place: Option<Place>, entry: &[u8; Entry::BYTES]) -> Option<Place>
+    ensures { Wrote text.old place (entry_text (entry_shown entry.now)) result text.new }
 {
     let cables = usize::from(entry[0]).min(Entry::MOST_RECORDS);
     let (records, _) = entry[Entry::RECORDS_AT..].as_chunks();
     let next = put_number(text, place, usize::from(entry[1]))?;
-    let next = put_byte(text, next, b' ')?;
+    let next = put_byte(text, Some(next), b' ')?;
     let next = put_field(text, next, b'@', entry, Entry::EXAMPLE_AT)?;
     let next = put_records(text, next, &records[..cables])?;
-    put_byte(text, next, b'\n')
+    put_byte(text, Some(next), b'\n')
 }

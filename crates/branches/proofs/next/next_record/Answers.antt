@@ -15,7 +15,7 @@ returns-in-Chord c used low =
     c.chord_record.ensures a.numbers.now used a.given low
     ∙ ap (chord_with b c.in-Chord.q c.in-Chord.l)
     (c.kind_of.ensures ∙ ap (kind d) c.device_at.ensures.0)
-    ∙ ap (λ (e : Extension). found_record d b (Some e)) (sym c.in-Chord.is)
+    ∙ ap (found_record d b) (sym (c.in-Some.is ∙ ap (λ (e : Extension). Some e) c.in-Chord.is))
 
 pub returns-in-Edge : goal.returns-in-Edge
 returns-in-Edge c used low =
@@ -25,4 +25,4 @@ returns-in-Edge c used low =
     c.edge_record.ensures a.numbers.now used a.count low
     ∙ ap (edge_with b c.in-Edge.q c.in-Edge.l)
     (c.kind_of-in-Edge.ensures ∙ ap (kind d) c.device_at-in-Edge.ensures.0)
-    ∙ ap (λ (e : Extension). found_record d b (Some e)) (sym c.in-Edge.is)
+    ∙ ap (found_record d b) (sym (c.in-Some.is ∙ ap (λ (e : Extension). Some e) c.in-Edge.is))

@@ -7,38 +7,25 @@ use Rattle.std.specs.declared.cmp.Ordering.TheVariants.{Less}
 use Rattle.code_records.specs.Records.{as_rec}
 use Rattle.branches.specs.declared.extension.Extension.{Extension}
 use Rattle.branches.specs.declared.extension.Extension.TheVariants.{Edge}
-use Rattle.branches.specs.Extensions.{ExtensionFound}
 use Rattle.branches.specs.Branches.{in_place}
 use Rattle.branches.specs.InPlaceLaws.{bounds_places, all_same, same_place, same_placed, given_place, taken_place}
 use Rattle.branches.specs.Ways.{PassedBelow, FirstWay}
 use Rattle.least_below.specs.Searches.{AnewFrom, WaysDone}
 use Rattle.least_below.specs.SearchBest.{before_goes_on, equal_goes_on}
-use Rattle.least_below.specs.SearchLaws.{search_bounds, found_some, makes_record}
-use Rattle.least_below.specs.SearchCalls.{best_counts, search_end, cable_left, ways_first, ways_skip, way_call, way_return, edge_placed, edge_tie_room, NextMet, back_call, back_done, front_call, front_done, none_behind, BestRow, row_behind, row_later, row_earlier, row_back_met, row_front_met, anew_left, anew_met}
+use Rattle.least_below.specs.SearchLaws.{search_bounds, makes_record}
+use Rattle.least_below.specs.SearchCalls.{best_counts, search_end, cable_left, ways_first, ways_skip, way_call, way_return, edge_placed, edge_tie_room, NextMet, back_call, back_done, front_call, front_done, never_nothing, none_behind, BestRow, row_behind, row_later, row_earlier, row_back_met, row_front_met, anew_left, anew_met}
 use Rattle.least_below.proofs.below.+search_anew_search_below_search_edges.Goals as goal
-use Rattle.least_below.proofs.below.+search_anew_search_below_search_edges.Goals.{search_anew-After-unwrap-found, search_anew-After-put_record, search_below-After-at-row, search_below-Joined-t-held, search_below-then-t-held+in-Earlier, search_below-else-t-held, search_edges-In-Some}
+use Rattle.least_below.proofs.below.+search_anew_search_below_search_edges.Goals.{search_anew-After-put_record, search_below-After-at-row, search_below-Joined-t-held, search_below-then-t-held+in-Earlier, search_below-else-t-held, search_edges-In-Some}
 
--- ANEW: a cable is left, so that something is found
-pub search_anew-least_extension-requires : goal.search_anew-least_extension-requires
-search_anew-least_extension-requires t c =
+-- ANEW
+pub search_anew-least_extension-found-requires : goal.search_anew-least_extension-found-requires
+search_anew-least_extension-found-requires t c =
     let p = c.requires.0.1.from in
     (bounds_places _ (search_bounds p), p.represents.used_size)
 
-pub search_anew-unwrap-found-requires : goal.search_anew-unwrap-found-requires
-search_anew-unwrap-found-requires t c =
-    let p = c.requires.0.1 in
-    found_some p.from p.more c.least_extension.result (c.least_extension.ensures c.args.given)
-
-found_at :
-    (t : ℕ) (c : search_anew-After-unwrap-found t)
-    → let a = c.args in
-    ExtensionFound a.table.now (in_place a.numbers.now a.used.now a.path.now a.count a.given a.low) (Some c.unwrap-found.result)
-found_at t c = rw c.unwrap-found.ensures at (c.least_extension.ensures c.args.given)
-
 pub search_anew-next_record-next-requires : goal.search_anew-next_record-next-requires
 search_anew-next_record-next-requires t c =
-    makes_record c.requires.0.1.from (Some c.unwrap-found.result)
-    (found_at t (goal.at.search_anew-next_record-next-requires t c).After-unwrap-found)
+    makes_record c.requires.0.1.from c.least_extension-found.result (c.least_extension-found.ensures c.args.given)
 
 pub search_anew-put_record-requires : goal.search_anew-put_record-requires
 search_anew-put_record-requires t c = (omega (arith, anew_left c.args.t c.args.best.now c.requires.0.1), c.requires.2)
@@ -52,10 +39,10 @@ met_at :
     (in_place a.numbers.now a.used.now a.path.now a.count a.given a.low) old
     → NextMet a.drawing.now a.table.now a.m a.t
     (in_place a.numbers.now a.used.now a.path.now a.count a.given a.low) a.best.now old
-    (Some c.unwrap-found.result) (as_rec c.next_record-next.result) Less
+    c.least_extension-found.result (as_rec c.next_record-next.result) Less
 met_at t c old z =
     let a = c.args in
-    anew_met a.t a.best.now z (Some c.unwrap-found.result) (rw c.unwrap-found.ensures at (c.least_extension.ensures a.given)) _
+    anew_met a.t a.best.now z c.least_extension-found.result (c.least_extension-found.ensures a.given) _
     (c.next_record-next.ensures a.used.now a.low)
 
 pub search_anew-overflow_add-t : goal.search_anew-overflow_add-t
@@ -72,7 +59,7 @@ search_anew-search_below-requires t c =
       (
         rw c.from.ensures
             (back_call (met_at t p z.0 z.1) before_goes_on c.put_record.new.code (c.args.t + 1) c.put_record.ensures.records
-            c.in-Chord.field-0 c.in-Chord.field-1 (ap (λ (e : Extension). Some e) c.in-Chord.is)),
+            c.in-Chord.field-0 c.in-Chord.field-1 (c.in-Some.is ∙ ap (λ (e : Extension). Some e) c.in-Chord.is)),
         c.requires.1,
         c.put_record.ensures.long ∙ c.requires.2,
       ),
@@ -88,7 +75,7 @@ search_anew-search_edges-requires t c =
       omega (arith, c.decreases, anew_left c.args.t c.args.best.now z.1),
       (
         front_call (met_at t p z.0 z.1) before_goes_on c.put_record.new.code (c.args.t + 1) c.put_record.ensures.records
-            c.in-Edge.q c.in-Edge.l (ap (λ (e : Extension). Some e) c.in-Edge.is),
+            c.in-Edge.q c.in-Edge.l (c.in-Some.is ∙ ap (λ (e : Extension). Some e) c.in-Edge.is),
         c.requires.1,
         c.put_record.ensures.long ∙ c.requires.2,
       ),
@@ -99,7 +86,7 @@ search_anew-returns-in-Chord t c =
     let p = (goal.at.search_anew-returns-in-Chord t c).After-put_record in (
       λ old z.
           back_done (met_at t p old z) before_goes_on c.put_record.new.code (c.args.t + 1) c.put_record.ensures.records
-          c.in-Chord.field-0 c.in-Chord.field-1 (ap (λ (e : Extension). Some e) c.in-Chord.is) _ c.search_below.result c.search_below.ensures.0,
+          c.in-Chord.field-0 c.in-Chord.field-1 (c.in-Some.is ∙ ap (λ (e : Extension). Some e) c.in-Chord.is) _ c.search_below.result c.search_below.ensures.0,
       c.search_below.ensures.1,
       c.search_below.ensures.2,
     )
@@ -109,10 +96,19 @@ search_anew-returns-in-Edge t c =
     let p = (goal.at.search_anew-returns-in-Edge t c).After-put_record in (
       λ old z.
           front_done (met_at t p old z) before_goes_on c.put_record.new.code (c.args.t + 1) c.put_record.ensures.records
-          c.in-Edge.q c.in-Edge.l (ap (λ (e : Extension). Some e) c.in-Edge.is) _ c.search_edges.result c.search_edges.ensures.0,
+          c.in-Edge.q c.in-Edge.l (c.in-Some.is ∙ ap (λ (e : Extension). Some e) c.in-Edge.is) _ c.search_edges.result c.search_edges.ensures.0,
       c.search_edges.ensures.1,
       c.search_edges.ensures.2,
     )
+
+pub search_anew-overflow_add-result : goal.search_anew-overflow_add-result
+search_anew-overflow_add-result t c = omega (arith, anew_left c.args.t c.args.best.now c.requires.0.1)
+
+pub search_anew-returns-in_default : goal.search_anew-returns-in_default
+search_anew-returns-in_default t c =
+    let z = c.requires.0 in
+    let p = (goal.at.search_anew-returns-in_default t c).After-put_record in
+    absurd (never_nothing (met_at t p z.0 z.1) before_goes_on c.put_record.new.code (c.args.t + 1) c.put_record.ensures.records c.in_default.is)
 
 -- AGAINST THE BEST
 pub search_below-returns-then-t-m : goal.search_below-returns-then-t-m

@@ -35,7 +35,12 @@ invariant_of-bounds c =
     let x = setting_within a.a (sym c.one_to_three.ensures ∙ c.if-not-one_to_three.false) in
     let y = setting_within a.b (sym c.one_to_three-else-not-one_to_three.ensures ∙ c.if-not-one_to_three-2.false) in
     let l = setting_within a.limit (sym c.one_to_three-2.ensures ∙ c.if-not-one_to_three-3.false) in
-    record { devices_few = omega (arith, x.1, y.1); cables_few = omega (arith, x.1, y.1); limit_some = l.0; limit_few = l.1 }
+    record { devices_few = omega (arith, x.1, y.1); cables_few = omega (arith, x.1, y.1); limit_few = l.1 }
+
+pub write_small-requires : goal.write_small-requires
+write_small-requires c =
+    let a = c.args in
+    (setting_within a.limit (sym c.one_to_three-2.ensures ∙ c.if-not-one_to_three-3.false)).0
 
 pub returns : goal.returns
 returns c =

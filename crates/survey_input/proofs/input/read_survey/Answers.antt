@@ -1,11 +1,10 @@
 -- `input::read_survey` meets its contract: what each read gives stands behind what the earlier ones gave. Assumes nothing.
-use Rattle.std.proofs.Common.{◌≡◌, ◌+◌, ◌≤◌, ℕ, List, [], refl, ◌++◌, length, take, drop, ap, sym, ◌∙◌, arith, length-take-le, append-nil}
+use Rattle.std.proofs.Common.{◌≡◌, ◌+◌, ◌≤◌, ℕ, List, refl, ◌++◌, length, take, drop, ap, sym, ◌∙◌, arith, length-take-le}
 use Rattle.std.proofs.lemmas.List.{take-append-le}
-use Rattle.std.proofs.lemmas.Slice.{take-put_mid_below}
 use Rattle.std.proofs.Math.Seq.{take-append-add}
 use borrow.Rule.Slice.PartMut.{put_mid, same_len_mid}
-use Rattle.std.specs.Io.KnownBytes.{Consumes}
 use Rattle.std.proofs.KnownBytes.{Consumes-nil, Consumes-trans}
+use Rattle.survey_input.specs.ReadAnswerLaws.{more_came, all_came}
 use Rattle.survey_input.proofs.input.read_survey.Goals as goal
 
 -- m of the bytes read behind the first n
@@ -15,32 +14,48 @@ read_behind n k m xs ys h g =
     ∙ take-append-add (take n xs) (ys ++ drop k (drop n xs)) m
     ∙ ap (λ (l : List ℕ). take n xs ++ l) (take-append-le m ys _ g)
 
-pub loop-n-init : goal.loop-n-init
-loop-n-init g c = record { within = omega arith; room = refl; read = Consumes-nil _ }
+pub loop-read-init : goal.loop-read-init
+loop-read-init g c = record { within = omega arith; room = refl; read = Consumes-nil _ }
 
-pub loop-n-preserved : goal.loop-n-preserved
-loop-n-preserved g c =
-    let l = c.loop-n in
+-- after a turn with more to come: what came, and how much of the lent bytes is read
+pub loop-read-smaller : goal.loop-read-smaller
+loop-read-smaller g c =
+    let l = c.loop-read in
+    let came = more_came l.n c.in-More.read c.read.result c.in-More.ensures.bytes c.in-More.ensures.failure in
+    let same = same_len_mid l.n _ l.input c.read.new.buf c.read.auto.buf in
+    omega (arith, came.1.1, came.1.2, came.1.3, same, l.invariant.room)
+
+pub loop-read-preserved : goal.loop-read-preserved
+loop-read-preserved g c =
+    let l = c.loop-read in
     let buf = c.read.new.buf in
-    let read : (c.in-Ok.more ≤ length buf) × Consumes (g.R.Read.remaining l.reader) (g.R.Read.remaining c.read.new.self) (take c.in-Ok.more buf) =
-    (c.in-Ok.ensures.bound.0, c.in-Ok.ensures.bytes.0) in
+    let came = more_came l.n c.in-More.read c.read.result c.in-More.ensures.bytes c.in-More.ensures.failure in
+    let bound = rw came.1.0 at c.read.ensures.bound in
+    let read = rw came.1.0 at c.read.ensures.bytes in
     let same = same_len_mid l.n _ l.input buf c.read.auto.buf in
     record {
-      within = omega (arith, read.0, same);
+      within = omega (arith, came.1.3, same, l.invariant.room);
       room = same ∙ l.invariant.room;
-      read = rw (read_behind l.n _ c.in-Ok.more l.input buf (omega arith) read.0)
-          (Consumes-trans _ _ _ _ _ l.invariant.read read.1);
+      read = rw (← came.1.1, read_behind l.n _ came.0 l.input buf (omega arith) bound.0)
+          (Consumes-trans _ _ _ _ _ l.invariant.read read.0);
     }
 
-pub returns-after-loop-n-clause-whole : goal.returns-after-loop-n-clause-whole
-returns-after-loop-n-clause-whole g c = (c.loop-n.invariant.read, λ h. absurd (omega arith))
+pub returns-in-All-clause-within : goal.returns-in-All-clause-within
+returns-in-All-clause-within g c =
+    let l = c.loop-read in
+    let came = all_came l.n c.in-All.read c.read.result c.in-All.ensures.bytes c.in-All.ensures.failure in
+    let bound = rw came.1.0 at c.read.ensures.bound in
+    let same = same_len_mid l.n _ l.input c.read.new.buf c.read.auto.buf in
+    omega (arith, came.1.1, bound.0, same, c.read.auto.buf)
 
-pub returns-in-Ok-eq0-clause-whole : goal.returns-in-Ok-eq0-clause-whole
-returns-in-Ok-eq0-clause-whole g c =
-    let l = c.loop-n in
-    let none : c.in-Ok-eq0.field-0 ≡ 0 = c.in-Ok-eq0.field-0-test in
-    let read : Consumes (g.R.Read.remaining l.reader) (g.R.Read.remaining c.read.new.self) [] = rw none at c.in-Ok-eq0.ensures.bytes.0 in (
-      rw (take-put_mid_below l.n _ l.input c.read.new.buf l.n (omega arith) (omega arith), ← append-nil (take l.n l.input))
-          (Consumes-trans _ _ _ _ _ l.invariant.read read),
-      λ h. c.in-Ok-eq0.ensures.bytes.1 none (omega arith),
+pub returns-in-All-clause-whole : goal.returns-in-All-clause-whole
+returns-in-All-clause-whole g c =
+    let l = c.loop-read in
+    let buf = c.read.new.buf in
+    let came = all_came l.n c.in-All.read c.read.result c.in-All.ensures.bytes c.in-All.ensures.failure in
+    let bound = rw came.1.0 at c.read.ensures.bound in
+    let read = rw came.1.0 at c.read.ensures.bytes in (
+      rw (← came.1.1, read_behind l.n _ came.0 l.input buf (omega arith) bound.0)
+          (Consumes-trans _ _ _ _ _ l.invariant.read read.0),
+      λ h. read.1 (came.1.2 h) (omega arith),
     )

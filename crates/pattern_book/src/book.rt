@@ -1,5 +1,5 @@
 // The book of all small patterns: the least code of every connected pattern with few cables and few kinds, whether or not a survey has it.
-ghost use Rattle.std.specs.Prelude.{◌≡◌, ◌≤◌};
+ghost use Rattle.std.specs.Prelude.{◌≡◌};
 ghost use Rattle.books.specs.Book.{unsupported, one_to_three};
 ghost use Rattle.entries.specs.Written.{ListWritten};
 ghost use Rattle.small_patterns.specs.SmallWalk.{Asked};
@@ -9,7 +9,7 @@ use records::bytes::clear;
 use records::code::Code;
 use records::refusal::{Fault, Refusal};
 use small_patterns::grow::walk_small;
-use small_patterns::next::BookBounds;
+use small_patterns::next::{AskedBounds, BookBounds};
 
 // The least and the most that a setting may be.
 const LEAST: u32 = 1;
@@ -25,12 +25,11 @@ fn one_to_three(n: u32) -> bool
 }
 
 // Writes the book of settings within their bounds. The code grows in one array.
-fn write_small(bounds: BookBounds, output: &mut [u8]) -> Result<usize, Fault>
-    requires { 1 ≤ bounds.limit }
-    ensures { ListWritten (Asked bounds) unsupported bounds.limit output.old result output.new }
+fn write_small(asked: AskedBounds, output: &mut [u8]) -> Result<usize, Fault>
+    ensures { ListWritten (Asked asked.bounds) unsupported asked.bounds.limit output.old result output.new }
 {
     let mut code = [0; Code::BYTES];
-    match walk_small(bounds, &mut code, 0, 1, output, 0) {
+    match walk_small(asked.bounds, &mut code, 0, 1, output, 0) {
         Some(entries) => Ok(entries),
         None => {
             clear(output);
@@ -55,5 +54,5 @@ pub fn write_book(a: u32, b: u32, limit: u32, output: &mut [u8]) -> Result<usize
         cables: b as usize,
         limit: limit as usize,
     };
-    write_small(bounds, output)
+    write_small(AskedBounds { bounds }, output)
 }

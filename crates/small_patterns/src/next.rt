@@ -20,6 +20,13 @@ pub struct BookBounds {
     ghost limit_few: { limit ≤ 3 },
 }
 
+// Bounds that let a cable in, as those of a book that is asked for have to; bounds as such need not.
+#[derive(Clone, Copy)]
+pub struct AskedBounds {
+    pub bounds: BookBounds,
+    ghost limit_some: { 1 ≤ bounds.limit },
+}
+
 // As many kinds as there may be, of two of them, and of three: the labels of a record.
 const KINDS: usize = 3;
 

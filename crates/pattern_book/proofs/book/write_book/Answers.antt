@@ -37,10 +37,11 @@ invariant_of-bounds c =
     let l = setting_within a.limit (sym c.one_to_three-2.ensures ∙ c.if-not-one_to_three-3.false) in
     record { devices_few = omega (arith, x.1, y.1); cables_few = omega (arith, x.1, y.1); limit_few = l.1 }
 
-pub write_small-requires : goal.write_small-requires
-write_small-requires c =
+-- at least one cable
+pub invariant_of-write_small : goal.invariant_of-write_small
+invariant_of-write_small c =
     let a = c.args in
-    (setting_within a.limit (sym c.one_to_three-2.ensures ∙ c.if-not-one_to_three-3.false)).0
+    record { limit_some = (setting_within a.limit (sym c.one_to_three-2.ensures ∙ c.if-not-one_to_three-3.false)).0 }
 
 pub returns : goal.returns
 returns c =

@@ -4,7 +4,7 @@ use Rattle.pattern_book.specs.BookWritten.{book_walks, book_written, book_too_lo
 use Rattle.pattern_book.proofs.book.write_small.Goals as goal
 
 pub walk_small-requires : goal.walk_small-requires
-walk_small-requires c = book_walks refl c.requires c.args.output.now
+walk_small-requires c = book_walks refl c.args.asked.limit_some c.args.output.now
 
 pub returns-in-Some : goal.returns-in-Some
 returns-in-Some c = book_written refl c.in-Some.ensures

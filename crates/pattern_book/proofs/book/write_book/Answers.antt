@@ -8,6 +8,12 @@ use Rattle.pattern_book.proofs.book.write_book.Goals.{
   then-not-one_to_three-via-else-not-one_to_three+then-not-one_to_three-2,
 }
 
+-- at least one cable; it stands first, so that a book of no cables that is let in fails here
+pub invariant_of-write_small : goal.invariant_of-write_small
+invariant_of-write_small c =
+    let a = c.args in
+    record { limit_some = (setting_within a.limit (sym c.one_to_three-2.ensures ∙ c.if-not-one_to_three-3.false)).0 }
+
 pub returns-then-not-one_to_three : goal.returns-then-not-one_to_three
 returns-then-not-one_to_three c =
     let a = c.args in
@@ -36,12 +42,6 @@ invariant_of-bounds c =
     let y = setting_within a.b (sym c.one_to_three-else-not-one_to_three.ensures ∙ c.if-not-one_to_three-2.false) in
     let l = setting_within a.limit (sym c.one_to_three-2.ensures ∙ c.if-not-one_to_three-3.false) in
     record { devices_few = omega (arith, x.1, y.1); cables_few = omega (arith, x.1, y.1); limit_few = l.1 }
-
--- at least one cable
-pub invariant_of-write_small : goal.invariant_of-write_small
-invariant_of-write_small c =
-    let a = c.args in
-    record { limit_some = (setting_within a.limit (sym c.one_to_three-2.ensures ∙ c.if-not-one_to_three-3.false)).0 }
 
 pub returns : goal.returns
 returns c =
